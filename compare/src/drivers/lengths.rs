@@ -1,0 +1,63 @@
+//! The proved library's buffer lengths for every pair of widths, and its fresh filters.
+
+use super::Effort;
+use crate::model::{Shape, fresh};
+use crate::proved::foundation;
+use crate::proved::guarded::Guarded;
+use crate::seed::Rng;
+use crate::smallest::hex;
+use std::fmt::Debug;
+
+const NAME: &str = "lengths";
+
+/// Longer destinations than this aren't made; a shorter one then stands for a wrong length.
+const LARGEST: u64 = 20_000;
+
+pub fn drive(effort: Effort) {
+    let mut calls = 0;
+    for qbits in 0..=255 {
+        for rbits in 0..=255 {
+            let expected = Shape::new(qbits, rbits).map(Shape::buffer_len);
+            same(
+                "buffer length",
+                (qbits, rbits, 0),
+                foundation::buffer_len(qbits, rbits),
+                expected,
+            );
+            calls += 1;
+        }
+    }
+    let mut rng = Rng::new(effort.seed, NAME);
+    for qbits in [0, 1, 5, 6, 7, 8, 9, 10, 11, 58, 59, 60, 63, 64, 255] {
+        for rbits in [0, 1, 2, 5, 8, 50, 53, 55, 57, 58, 59, 64, 250, 255] {
+            for _ in 0..60 * effort.times {
+                let max_qbits = if rng.one_in(3) { 0 } else { rng.below(70) as u8 };
+                one(&mut rng, qbits, rbits, max_qbits);
+                calls += 1;
+            }
+        }
+    }
+    println!("{NAME}: {calls} calls agree");
+}
+
+/// A fresh filter in a destination that has the right length or nearly so.
+fn one(rng: &mut Rng, qbits: u8, rbits: u8, max_qbits: u8) {
+    let right = Shape::new(qbits, rbits).map_or(89, Shape::buffer_len).min(LARGEST);
+    let len = (right + rng.pick(&[0, 0, 0, 0, 1, 2, 9]))
+        .saturating_sub(rng.pick(&[0, 0, 0, 0, 1, 8, LARGEST]));
+    let mut dest = Guarded::garbage(len);
+    let expected = fresh(qbits, rbits, max_qbits, len).map(|numbers| (0, numbers));
+    let got = foundation::fresh(qbits, rbits, max_qbits, dest.bytes_mut());
+    same("fresh", (qbits, rbits, max_qbits), got, expected);
+    let bytes =
+        if got.is_ok() { vec![0; len as usize] } else { Guarded::garbage(len).bytes().to_vec() };
+    same("fresh bytes", (qbits, rbits, max_qbits), hex(dest.bytes()), hex(&bytes));
+    same("marks", (qbits, rbits, max_qbits), dest.intact(), true);
+}
+
+fn same<T: PartialEq + Debug>(what: &str, widths: (u8, u8, u8), got: T, expected: T) {
+    if got != expected {
+        println!("{NAME}: {what} DISAGREES\n  widths {widths:?}: {got:?}, expected {expected:?}");
+        std::process::exit(1);
+    }
+}

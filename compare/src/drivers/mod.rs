@@ -1,0 +1,85 @@
+//! One driver for each theme. Each prints its counts in its last line, and ends the run with the
+//! smallest input it has if anything disagrees.
+
+mod aimed;
+mod examples;
+mod growth;
+mod inputs;
+mod merges;
+mod planning;
+mod program;
+mod reads;
+mod select;
+mod writes;
+
+#[cfg(feature = "proved-check")]
+mod damage;
+#[cfg(feature = "proved-growth")]
+mod destinations;
+#[cfg(feature = "proved-foundation")]
+mod lengths;
+#[cfg(any(
+    feature = "proved-lookup",
+    feature = "proved-write",
+    feature = "proved-list",
+    feature = "proved-growth"
+))]
+mod refusals;
+
+use crate::model::Shape;
+
+/// How much of everything.
+#[derive(Clone, Copy)]
+pub struct Effort {
+    pub seed: u64,
+    /// 1 in short mode.
+    pub times: u64,
+}
+
+pub type Driver = (&'static str, fn(Effort));
+
+/// Every driver of this build, in the order they run.
+pub const ALL: &[Driver] = &[
+    ("examples", examples::drive),
+    ("select", select::drive),
+    ("planning", planning::drive),
+    ("reads", reads::drive),
+    ("writes", writes::drive),
+    ("aimed", aimed::drive),
+    ("growth", growth::drive),
+    ("merges", merges::drive),
+    ("program", program::drive),
+    #[cfg(feature = "proved-foundation")]
+    ("lengths", lengths::drive),
+    #[cfg(feature = "proved-check")]
+    ("damage", damage::drive),
+    #[cfg(any(
+        feature = "proved-lookup",
+        feature = "proved-write",
+        feature = "proved-list",
+        feature = "proved-growth"
+    ))]
+    ("refusals", refusals::drive),
+    #[cfg(feature = "proved-growth")]
+    ("destinations", destinations::drive),
+];
+
+/// The shapes that every sequence driver goes through.
+const SHAPES: [(u8, u8); 12] = [
+    (6, 1),
+    (6, 8),
+    (6, 58),
+    (7, 8),
+    (7, 57),
+    (8, 3),
+    (8, 40),
+    (9, 8),
+    (9, 55),
+    (10, 5),
+    (11, 2),
+    (13, 8),
+];
+
+fn shapes() -> impl Iterator<Item = Shape> {
+    SHAPES.iter().map(|&(qbits, rbits)| Shape { qbits, rbits })
+}

@@ -1,0 +1,64 @@
+//! Random holdings, up to one slot short of full: read back from their image, listed place by
+//! place, and looked up all around what they hold.
+
+use super::{Effort, shapes};
+use crate::call::Call;
+use crate::generate::Hashes;
+use crate::model::{Filter, Shape, check};
+use crate::seed::Rng;
+use crate::sequence::Bench;
+use crate::smallest::describe;
+
+const NAME: &str = "reads";
+
+pub fn drive(effort: Effort) {
+    let mut rng = Rng::new(effort.seed, NAME);
+    let mut bench = Bench::new(NAME);
+    let mut holdings = 0;
+    for shape in shapes() {
+        for _ in 0..((20_000 * effort.times) >> shape.qbits).max(6) {
+            let hashes = Hashes::spread(&mut rng, shape);
+            let len = some_len(&mut rng, shape);
+            let filter = hashes.holding(&mut rng, 0, len);
+            reads_back(&filter);
+            bench.run(&filter, &reads(&mut rng, &hashes, &filter));
+            holdings += 1;
+        }
+    }
+    bench.finish(&format!(", {holdings} holdings read back from their image"));
+}
+
+/// Any len that may be sound, with the edges often.
+pub fn some_len(rng: &mut Rng, shape: Shape) -> u64 {
+    let (slots, capacity) = (shape.slots(), shape.capacity());
+    match rng.below(8) {
+        0 => 0,
+        1 => 1 + rng.below(3),
+        2 => capacity - rng.below(2),
+        3 => slots - 1 - rng.below(2),
+        _ => rng.below(slots),
+    }
+}
+
+/// The model's own check must find the holding that an image was made of.
+fn reads_back(filter: &Filter) {
+    if check(filter.numbers(), &filter.image()).as_ref() != Ok(filter) {
+        println!("{NAME}: the model DISAGREES with itself\n  on {}", describe(filter));
+        std::process::exit(1);
+    }
+}
+
+fn reads(rng: &mut Rng, hashes: &Hashes, filter: &Filter) -> Vec<Call> {
+    let mut calls = vec![Call::List];
+    for _ in 0..60 {
+        let hash = match rng.below(3) {
+            0 if !filter.held.is_empty() => rng.pick(&filter.held),
+            1 if !filter.held.is_empty() => {
+                rng.pick(&filter.held) ^ 1 << rng.below(filter.shape.rbits.into())
+            }
+            _ => hashes.hash(rng),
+        };
+        calls.extend([Call::Contains { hash }, Call::Count { hash }]);
+    }
+    calls
+}

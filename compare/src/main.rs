@@ -1,0 +1,84 @@
+//! Compares the original crate, a model of document 01 and the proved library; see README.md.
+
+// Parts of the library that a build leaves out leave some of the helpers without a user.
+#![cfg_attr(
+    not(all(
+        feature = "proved-foundation",
+        feature = "proved-check",
+        feature = "proved-lookup",
+        feature = "proved-write",
+        feature = "proved-list",
+        feature = "proved-growth"
+    )),
+    allow(dead_code, unused_imports)
+)]
+
+mod call;
+mod damage;
+mod drivers;
+mod generate;
+mod model;
+mod original;
+#[cfg(feature = "proved")]
+mod proved;
+mod seed;
+mod sequence;
+mod smallest;
+mod subject;
+mod wrong;
+
+use drivers::Effort;
+use std::time::Instant;
+
+/// Long mode does this many times what short mode does.
+const LONG: u64 = 10;
+
+/// What the command line asks for.
+struct Options {
+    effort: Effort,
+    only: Option<String>,
+}
+
+fn options() -> Options {
+    let mut options = Options { effort: Effort { seed: seed::SEED, times: 1 }, only: None };
+    let mut arguments = std::env::args().skip(1);
+    while let Some(argument) = arguments.next() {
+        match argument.as_str() {
+            "short" => options.effort.times = 1,
+            "long" => options.effort.times = LONG,
+            "--only" => options.only = arguments.next(),
+            "--seed" => {
+                let seed = arguments.next().and_then(|seed| seed.parse().ok());
+                options.effort.seed = seed.expect("--seed needs a number");
+            }
+            other => panic!("unknown argument {other}"),
+        }
+    }
+    options
+}
+
+/// The parts of the proved library that this build asks.
+fn parts() -> String {
+    let all = [
+        ("foundation", cfg!(feature = "proved-foundation")),
+        ("check", cfg!(feature = "proved-check")),
+        ("lookup", cfg!(feature = "proved-lookup")),
+        ("write", cfg!(feature = "proved-write")),
+        ("list", cfg!(feature = "proved-list")),
+        ("growth", cfg!(feature = "proved-growth")),
+    ];
+    let asked: Vec<&str> = all.iter().filter(|part| part.1).map(|part| part.0).collect();
+    if asked.is_empty() { "none".into() } else { asked.join(" ") }
+}
+
+fn main() {
+    let Options { effort, only } = options();
+    let begun = Instant::now();
+    let Effort { seed, times } = effort;
+    println!("compare: seed {seed}, {times} times the short run, proved parts: {}", parts());
+    let wanted = |name: &str| only.as_deref().is_none_or(|only| only == name);
+    let mut drivers = drivers::ALL.iter().filter(|driver| wanted(driver.0)).peekable();
+    assert!(drivers.peek().is_some(), "no driver of that name");
+    drivers.for_each(|driver| driver.1(effort));
+    println!("compare: nothing disagrees, {:.1} s", begun.elapsed().as_secs_f32());
+}

@@ -1,0 +1,107 @@
+//! The original crate as a subject. It is asked on sound filters only, since it may loop for
+//! ever on others.
+
+use crate::call::{Answer, Call};
+use crate::model::{Filter, Numbers, Place};
+use crate::subject::Subject;
+use qfilter::Error;
+
+pub struct Original(qfilter::Filter);
+
+/// The paper's number of the crate's error.
+pub fn number_of(error: Error) -> u64 {
+    match error {
+        Error::CapacityExceeded => 7,
+        Error::IncompatibleFingerprintSize => 8,
+        Error::NotEnoughFingerprintBits => 9,
+        Error::CapacityTooLarge => 10,
+        _ => unreachable!("the crate has four errors"),
+    }
+}
+
+/// The crate's filter from the model's.
+pub fn from_model(filter: &Filter, image: &[u8]) -> qfilter::Filter {
+    let n = filter.numbers();
+    qfilter::Filter::from_parts(image, n.len, n.qbits, n.rbits, n.max_qbits)
+}
+
+/// The crate's record as document 01 has it.
+pub fn numbers_of(filter: &qfilter::Filter) -> Numbers {
+    let (len, qbits, rbits, max_qbits) = filter.parts();
+    Numbers { len, qbits, rbits, max_qbits }
+}
+
+impl Original {
+    pub fn new() -> Original {
+        Original(qfilter::Filter::from_parts(&[], 0, 6, 1, 0))
+    }
+
+    fn change(&mut self, call: &Call) -> Result<Answer, Error> {
+        Ok(match *call {
+            Call::Contains { hash } => {
+                Answer::Held { held: self.0.contains_fingerprint(hash), compared: None }
+            }
+            Call::Count { hash } => Answer::Count(self.0.count_fingerprint(hash)),
+            Call::Insert { hash, max_count } => {
+                Answer::Count(self.0.insert_without_growth(max_count, hash)?)
+            }
+            Call::InsertSpare { hash, max_count } => {
+                let before = numbers_of(&self.0).qbits;
+                let count = self.0.insert_fingerprint_counting(max_count, hash)?;
+                Answer::Spare { count, in_spare: numbers_of(&self.0).qbits != before }
+            }
+            Call::Remove { hash } => Answer::Removed(self.0.remove_fingerprint(hash)),
+            Call::List => self.list(),
+            Call::Grow => {
+                self.0 = self.0.grown()?;
+                Answer::Written
+            }
+            Call::Merge { ref other, keep } => self.merge(other, keep)?,
+        })
+    }
+
+    /// The fingerprints, and the iterator's own place before each of them.
+    fn list(&self) -> Answer {
+        let mut iter = self.0.fingerprints();
+        let (mut fingerprints, mut places) = (Vec::new(), Vec::new());
+        loop {
+            let (quotient, slot, remaining) = iter.place();
+            let Some(fingerprint) = iter.next() else { break };
+            fingerprints.push(fingerprint);
+            places.push(Place { quotient, slot, remaining });
+        }
+        // The iterator's last place is left where it ran to; document 01 has all 0 there.
+        places.push(Place::default());
+        Answer::Listed { fingerprints, places }
+    }
+
+    /// A refused merge of a wider filter stops halfway, a listed difference; so a copy is merged.
+    fn merge(&mut self, other: &Filter, keep: bool) -> Result<Answer, Error> {
+        let mut copy = self.0.clone();
+        copy.merge(keep, &from_model(other, &other.image()))?;
+        self.0 = copy;
+        Ok(Answer::Written)
+    }
+}
+
+impl Subject for Original {
+    fn name(&self) -> &'static str {
+        "original"
+    }
+
+    fn load(&mut self, filter: &Filter, image: &[u8]) {
+        self.0 = from_model(filter, image);
+    }
+
+    fn ask(&mut self, call: &Call, _after: Numbers) -> Option<Answer> {
+        Some(self.change(call).unwrap_or_else(|error| Answer::Refused(number_of(error))))
+    }
+
+    fn numbers(&self) -> Numbers {
+        numbers_of(&self.0)
+    }
+
+    fn bytes(&self) -> &[u8] {
+        self.0.buffer()
+    }
+}

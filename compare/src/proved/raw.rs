@@ -1,0 +1,62 @@
+//! Calls on numbers and bytes that may not be sound: what document 01 fixes about them, and
+//! whether the proved library keeps to it.
+
+use super::subject::Proved;
+use crate::call::{Answer, Call, ask_model};
+use crate::model::{Numbers, check};
+use crate::sequence::{Expected, ask};
+use crate::subject::Subject;
+
+/// What became of a call.
+pub enum Seen {
+    /// The call isn't in this build.
+    NotOffered,
+    /// The answer is fixed, and was given.
+    Agreed,
+    /// Number 6 is due and the call is quick: it ended, and stayed inside the blocks.
+    Ended,
+}
+
+/// Asks a call on anything; what is wrong comes back in words.
+pub fn compare(
+    subject: &mut Proved,
+    numbers: Numbers,
+    bytes: &[u8],
+    call: &Call,
+) -> Result<Seen, String> {
+    subject.load_raw(numbers, bytes);
+    let due = check(numbers, bytes);
+    if subject.is_quick() && due == Err(6) {
+        return free(subject, bytes, call);
+    }
+    let expected = match due {
+        Err(number) => Expected { answer: Answer::Refused(number), numbers, image: bytes.to_vec() },
+        Ok(mut filter) => {
+            let answer = ask_model(&mut filter, call);
+            Expected { answer, numbers: filter.numbers(), image: filter.image() }
+        }
+    };
+    match ask(subject, call, &expected) {
+        None => Ok(Seen::NotOffered),
+        Some(result) => result.map(|()| Seen::Agreed),
+    }
+}
+
+/// A quick call where 6 is due: neither answer nor blocks are fixed, all else is.
+fn free(subject: &mut Proved, bytes: &[u8], call: &Call) -> Result<Seen, String> {
+    let Some(answer) = subject.ask(call, subject.numbers()) else {
+        return Ok(Seen::NotOffered);
+    };
+    if answer == Answer::OUTSIDE {
+        return Err(format!("{answer:?}"));
+    }
+    let in_spare = matches!(answer, Answer::Spare { in_spare: true, .. });
+    let last_eight = |bytes: &[u8]| bytes[bytes.len() - 8..].to_vec();
+    if !in_spare && last_eight(subject.bytes()) != last_eight(bytes) {
+        return Err("the last eight bytes were altered".into());
+    }
+    if !in_spare && !call.writes() && subject.bytes() != bytes {
+        return Err("a reader altered the buffer".into());
+    }
+    Ok(Seen::Ended)
+}

@@ -1,0 +1,30 @@
+//! What is compared with the model: anything that keeps a filter and answers calls.
+
+use crate::call::{Answer, Call};
+use crate::model::{Filter, Numbers};
+
+pub trait Subject {
+    fn name(&self) -> &'static str;
+
+    /// Takes over a sound filter.
+    fn load(&mut self, filter: &Filter, image: &[u8]);
+
+    /// Answers a call, or none if this subject doesn't offer it. `after` is the record that the
+    /// model has afterwards; it tells how long a destination must be.
+    fn ask(&mut self, call: &Call, after: Numbers) -> Option<Answer>;
+
+    fn numbers(&self) -> Numbers;
+
+    fn bytes(&self) -> &[u8];
+}
+
+/// Every subject of this build.
+pub fn all() -> Vec<Box<dyn Subject>> {
+    vec![
+        Box::new(crate::original::Original::new()),
+        #[cfg(feature = "proved")]
+        Box::new(crate::proved::subject::Proved::checked()),
+        #[cfg(feature = "proved")]
+        Box::new(crate::proved::subject::Proved::quick()),
+    ]
+}

@@ -1,0 +1,2 @@
+pub mod Select
+pub mod Lowest

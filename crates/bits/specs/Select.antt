@@ -1,0 +1,31 @@
+-- What `select` promises: the place of the n-th one, counted from 0.
+use Prim.Native.Nat.{ℕ, suc, _-_, _^_, _<_, _≤_}
+use native.Mathlib.Omega.{arith}
+use lib.Dec.{lit<, lit≤}
+use mathlib.Core.Path.{_≡_, refl, sym, ap, _∙_}
+use Rattle.theory.specs.number.Field.{field}
+use Rattle.theory.specs.tools.Total.{total}
+use Rattle.theory.specs.number.Count.{rank, rank-suc, rank-mono, rank-inj}
+use Rattle.bits.specs.declared.select.Found.{Found}
+use Rattle.bits.specs.declared.select.Found.the-variants.{At, Nothing}
+
+abbrev pub Selected : ℕ → ℕ → Found → Type 0
+Selected x n (At p) = (p < 64) × (field x p 1 ≡ 1) × (rank x p ≡ n)
+Selected x n Nothing = rank x 64 ≤ n
+
+-- two answers that meet the promise are one
+clash : (x n p : ℕ) → p < 64 → field x p 1 ≡ 1 → rank x p ≡ n → rank x 64 ≤ n → ⊥
+clash x n p l b e h = omega (arith, rank-suc x p, rank-mono x (suc p) 64 l)
+
+pub selected-unique : (x n : ℕ) (a b : Found) → Selected x n a → Selected x n b → a ≡ b
+selected-unique x n (At p) (At q) s t = ap At (rank-inj x p q (s .1) (t .1) (s .2 ∙ sym (t .2)))
+selected-unique x n (At p) Nothing s t = absurd (clash x n p (s .0) (s .1) (s .2) t)
+selected-unique x n Nothing (At q) s t = absurd (clash x n q (t .0) (t .1) (t .2) s)
+selected-unique x n Nothing Nothing s t = refl
+
+-- worked examples, from the definitions
+pub examples : Selected 0 0 Nothing × Selected 11 2 (At 3) × Selected (2 ^ 63) 0 (At 63) × Selected (2 ^ 64 - 1) 63 (At 63)
+    × Selected (2 ^ 64 - 1) 64 Nothing × Selected (2 ^ 64 - 1) 128 Nothing
+unfolding rank field total
+examples =
+    (lit≤ tt, (lit< tt, refl, refl), (lit< tt, refl, refl), (lit< tt, refl, refl), lit≤ tt, lit≤ tt)

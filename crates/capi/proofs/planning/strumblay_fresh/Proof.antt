@@ -1,0 +1,43 @@
+-- `capi::planning::strumblay_fresh`, case by case. Assumes nothing.
+use mathlib.Core.Path.{ap, sym, refl, _∙_, subst}
+use Rattle.capi.specs.Planning.{freshOf}
+use borrow.Author.Needs.{needs}
+use Rattle.capi.proofs.planning.strumblay_fresh.Statement.{statement}
+use Rattle.capi.proofs.planning.strumblay_fresh.Tie as tie
+
+fresh-requires : tie.Need-fresh-requires
+fresh-requires c κs = search needs
+
+enum-known-made : tie.Need-enum-known-made
+enum-known-made c = search needs
+
+enum-known-made-2 : tie.Need-enum-known-made-2
+enum-known-made-2 c = search needs
+
+cast-t11 : tie.Need-cast-t11
+cast-t11 c = search needs
+
+same-length : tie.Need-same-length
+same-length c = search needs
+
+returns : tie.Need-returns
+returns c = record { answer = c .before .before .before .before .before .fresh .result; right = c .before .before .before .before .before .fresh .ensures; is = ap (freshOf (c .before .before .before .before .before .before .before .before .args .qbits) (c .before .before .before .before .before .before .before .before .args .rbits) (c .before .before .before .before .before .before .before .before .args .max-qbits)) (sym (c .before .made .given .1)) }
+
+same-length-2 : tie.Need-same-length-2
+same-length-2 c = search needs
+
+returns-2 : tie.Need-returns-2
+returns-2 c = record { answer = c .before .before .before .before .before .fresh .result; right = c .before .before .before .before .before .fresh .ensures; is = ap (freshOf (c .before .before .before .before .before .before .before .before .args .qbits) (c .before .before .before .before .before .before .before .before .args .rbits) (c .before .before .before .before .before .before .before .before .args .max-qbits)) (sym (c .before .made2 .given .1)) }
+
+pub strumblay-fresh-spec : {M : Type 1} → statement M
+strumblay-fresh-spec =
+    tie.close
+    (tie.spec
+    fresh-requires
+    enum-known-made
+    enum-known-made-2
+    cast-t11
+    same-length
+    returns
+    same-length-2
+    returns-2)

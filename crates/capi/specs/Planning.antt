@@ -1,0 +1,86 @@
+-- Answers as plain structs: each enum case with its number of document 01 and its values.
+use Prim.Native.Nat.{ℕ, _^_, _<_}
+use mathlib.Core.Path.{_≡_}
+use mathlib.Core.Bool.{false}
+use mathlib.Core.List.{List}
+use lib.IntN.{pos}
+use lib.Ieee.{Float, fin}
+use Rattle.theory.specs.Shape.{bytes}
+use Rattle.bits.specs.Select.{Selected}
+use Rattle.bits.specs.declared.select.Found.{Found}
+use Rattle.bits.specs.declared.select.Found.the-variants as found
+use Rattle.filter.specs.declared.numbers.Numbers.{Numbers}
+use Rattle.filter.specs.declared.planning.Needed.{Needed}
+use Rattle.filter.specs.declared.planning.Needed.the-variants as needed
+use Rattle.filter.specs.declared.planning.Specified.{Specified}
+use Rattle.filter.specs.declared.planning.Specified.the-variants as specified
+use Rattle.filter.specs.declared.planning.Planned.{Planned}
+use Rattle.filter.specs.declared.planning.Planned.the-variants as planned
+use Rattle.filter.specs.declared.shape.Shaped.{Shaped}
+use Rattle.filter.specs.declared.shape.Shaped.the-variants as shaped
+use Rattle.filter.specs.declared.fresh.Made.{Made}
+use Rattle.filter.specs.declared.fresh.Made.the-variants as made
+use Rattle.filter.specs.Plans.{NeededAs, SpecifiedAs, PlannedAs}
+use Rattle.filter.specs.Shapes.{ShapedAs}
+use Rattle.filter.specs.Fresh.{MadeAs}
+use Rattle.capi.specs.declared.planning.Outcome.{Outcome}
+use Rattle.capi.specs.declared.planning.Specs.{Specs}
+use Rattle.capi.specs.declared.planning.Plan.{Plan}
+use Rattle.capi.specs.declared.planning.Changed.{Changed}
+
+-- a position, or 64 for none
+abbrev pub positionOf : Found → ℕ
+positionOf (found.At p) = p
+positionOf found.Nothing = 64
+
+pub record PositionOf (x n : ℕ) (r : ℕ) : Type 0 where
+  pub answer : Found
+  pub right : Selected x n answer
+  pub is : r ≡ positionOf answer
+
+-- the slots of a width, or a number
+abbrev pub neededOf : Needed → Outcome
+neededOf (needed.Qbits q) = record { number = 0; value = 2 ^ q }
+neededOf (needed.Refused k) = record { number = k; value = 0 }
+
+pub record NeededOutcome (c : ℕ) (r : Outcome) : Type 0 where
+  pub answer : Needed
+  pub right : NeededAs c answer
+  pub is : r ≡ neededOf answer
+
+abbrev pub specsOf : Specified → Specs
+specsOf (specified.Specs s) = record { number = 0; «max_capacity» = s .«max_capacity»; «max_error_ratio» = s .«max_error_ratio»; «bits_per_item» = s .«bits_per_item»; «memory_bytes_min» = s .«memory_bytes_min»; «memory_bytes_max» = s .«memory_bytes_max»; «fingerprint_bits» = s .«fingerprint_bits» }
+specsOf (specified.Refused k) = record { number = k; «max_capacity» = 0; «max_error_ratio» = fin false 0 (pos 0); «bits_per_item» = fin false 0 (pos 0); «memory_bytes_min» = 0; «memory_bytes_max» = 0; «fingerprint_bits» = 0 }
+
+pub record SpecsOutcome (c : ℕ) (rate : Float) (r : Specs) : Type 0 where
+  pub answer : Specified
+  pub right : SpecifiedAs c rate answer
+  pub is : r ≡ specsOf answer
+
+abbrev pub planOf : Planned → Plan
+planOf (planned.Widths n) = record { number = 0; qbits = n .qbits; rbits = n .rbits; «max_qbits» = n .«max_qbits» }
+planOf (planned.Refused k) = record { number = k; qbits = 0; rbits = 0; «max_qbits» = 0 }
+
+pub record PlanOutcome (initial most : ℕ) (rate : Float) (r : Plan) : Type 0 where
+  pub answer : Planned
+  pub right : PlannedAs initial most rate answer
+  pub is : r ≡ planOf answer
+
+abbrev pub lengthOf : Shaped → Outcome
+lengthOf (shaped.Of h) = record { number = 0; value = bytes (h .qbits) (h .rbits) }
+lengthOf (shaped.Refused k) = record { number = k; value = 0 }
+
+pub record LengthOutcome (q r : ℕ) (a : Outcome) : Type 0 where
+  pub answer : Shaped
+  pub right : ShapedAs q r answer
+  pub is : a ≡ lengthOf answer
+
+-- a refusal gives back the widths asked, with len 0
+abbrev pub freshOf : ℕ → ℕ → ℕ → Made → Changed
+freshOf q r mx (made.Fresh n) = record { number = 0; answer = 0; numbers = n }
+freshOf q r mx (made.Refused k) = record { number = k; answer = 0; numbers = record { len = 0; qbits = q; rbits = r; «max_qbits» = mx } }
+
+pub record FreshOutcome (s : List ℕ) (q r mx : ℕ) (a : Changed) (t : List ℕ) : Type 0 where
+  pub answer : Made
+  pub right : MadeAs s q r mx answer t
+  pub is : a ≡ freshOf q r mx answer

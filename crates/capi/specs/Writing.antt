@@ -1,0 +1,23 @@
+-- Answers of insert and remove as plain structs; a refusal gives back the record as given.
+use Prim.Native.Nat.{ℕ}
+use mathlib.Core.Path.{_≡_}
+use mathlib.Core.List.{List}
+use Rattle.filter.specs.declared.numbers.Numbers.{Numbers}
+use Rattle.filter.specs.declared.writers.Inserted.{Inserted}
+use Rattle.filter.specs.declared.writers.Inserted.the-variants as inserted
+use Rattle.filter.specs.Writing.{Insert, InsertQuick}
+use Rattle.capi.specs.declared.planning.Changed.{Changed}
+
+abbrev pub insertedOf : Numbers → Inserted → Changed
+insertedOf n (inserted.Counted m after) = record { number = 0; answer = m; numbers = after }
+insertedOf n (inserted.Refused k) = record { number = k; answer = 0; numbers = n }
+
+pub record InsertOutcome (n : Numbers) (hash most : ℕ) (s : List ℕ) (a : Changed) (t : List ℕ) : Type 0 where
+  pub answer : Inserted
+  pub right : Insert n hash most s answer t
+  pub is : a ≡ insertedOf n answer
+
+pub record InsertQuickOutcome (n : Numbers) (hash most : ℕ) (s : List ℕ) (a : Changed) (t : List ℕ) : Type 0 where
+  pub answer : Inserted
+  pub right : InsertQuick n hash most s answer t
+  pub is : a ≡ insertedOf n answer

@@ -1,0 +1,94 @@
+// The check, lookups and counts.
+ghost use Rattle.capi.specs.Reading.{CheckOutcome, ContainsOutcome, ContainsQuickOutcome, CountOutcome, CountQuickOutcome};
+ghost use mathlib.Core.Path.{_≡_};
+ghost use Rattle.capi.specs.Reading.{verdictOf, lookedOf, countedOf};
+use crate::planning::Outcome;
+use filter::check::Verdict;
+use filter::contains::Counting;
+use filter::contains::Lookup;
+use filter::numbers::Numbers;
+
+// A refusal's number, or 0, whether held (1 or 0), and the remainders compared.
+#[repr(C)]
+pub struct Looked {
+    pub number: u64,
+    pub held: u64,
+    pub compared: u64,
+}
+
+fn as_looked(lookup: Lookup) -> Looked
+    ensures { λ r. ⌜ r ≡ lookedOf lookup ⌝ }
+{
+    match lookup {
+        Lookup::Held(k) => Looked {
+            number: 0,
+            held: 1,
+            compared: k,
+        },
+        Lookup::Absent(k) => Looked {
+            number: 0,
+            held: 0,
+            compared: k,
+        },
+        Lookup::Refused(k) => Looked {
+            number: k as u64,
+            held: 0,
+            compared: 0,
+        },
+    }
+}
+
+fn as_counted(counting: Counting) -> Outcome
+    ensures { λ r. ⌜ r ≡ countedOf counting ⌝ }
+{
+    match counting {
+        Counting::Copies(m) => Outcome {
+            number: 0,
+            value: m,
+        },
+        Counting::Refused(k) => Outcome {
+            number: k as u64,
+            value: 0,
+        },
+    }
+}
+
+// 0 if sound, else the lowest of 1 to 6 that is due.
+#[no_mangle]
+pub extern "C" fn strumblay_check(buf: &[u8], n: Numbers) -> u64
+    ensures { λ r. ⌜ CheckOutcome n (now (buf .entry)) r ⌝ }
+{
+    let verdict = filter::check::check(buf, n);
+    match verdict {
+        Verdict::Sound => 0,
+        Verdict::Refused(k) => k as u64,
+    }
+}
+
+#[no_mangle]
+pub extern "C" fn strumblay_contains(buf: &[u8], n: Numbers, hash: u64) -> Looked
+    ensures { λ r. ⌜ ContainsOutcome n (now (buf .entry)) hash r ⌝ }
+{
+    as_looked(filter::contains::contains_fingerprint(buf, n, hash))
+}
+
+#[no_mangle]
+pub extern "C" fn strumblay_contains_quick(buf: &[u8], n: Numbers, hash: u64) -> Looked
+    ensures { λ r. ⌜ ContainsQuickOutcome n (now (buf .entry)) hash r ⌝ }
+{
+    as_looked(filter::contains::contains_fingerprint_quick(buf, n, hash))
+}
+
+#[no_mangle]
+pub extern "C" fn strumblay_count(buf: &[u8], n: Numbers, hash: u64) -> Outcome
+    ensures { λ r. ⌜ CountOutcome n (now (buf .entry)) hash r ⌝ }
+{
+    as_counted(filter::contains::count_fingerprint(buf, n, hash))
+}
+
+#[no_mangle]
+pub extern "C" fn strumblay_count_quick(buf: &[u8], n: Numbers, hash: u64) -> Outcome
+    ensures { λ r. ⌜ CountQuickOutcome n (now (buf .entry)) hash r ⌝ }
+{
+    as_counted(filter::contains::count_fingerprint_quick(buf, n, hash))
+}

@@ -1,0 +1,48 @@
+// Insert and remove.
+ghost use mathlib.Core.Path.{_≡_};
+ghost use Rattle.capi.specs.Writing.{insertedOf, InsertOutcome, InsertQuickOutcome};
+use crate::planning::Changed;
+use filter::numbers::Numbers;
+use filter::writers::Inserted;
+
+fn as_inserted(inserted: Inserted, n: Numbers) -> Changed
+    ensures { λ r. ⌜ r ≡ insertedOf n inserted ⌝ }
+{
+    match inserted {
+        Inserted::Counted(m, after) => Changed {
+            number: 0,
+            answer: m,
+            numbers: after,
+        },
+        Inserted::Refused(k) => Changed {
+            number: k as u64,
+            answer: 0,
+            numbers: n,
+        },
+    }
+}
+
+#[no_mangle]
+pub extern "C" fn strumblay_insert(buf: &mut [u8], n: Numbers, hash: u64, max_count: u64) -> Changed
+    ensures { λ r. ⌜ InsertOutcome n hash «max_count» (now (buf .entry)) r (now (buf .exit)) ⌝ }
+{
+    as_inserted(
+        filter::writers::insert_fingerprint_counting(buf, n, hash, max_count),
+        n,
+    )
+}
+
+#[no_mangle]
+pub extern "C" fn strumblay_insert_quick(
+    buf: &mut [u8],
+    n: Numbers,
+    hash: u64,
+    max_count: u64,
+) -> Changed
+    ensures { λ r. ⌜ InsertQuickOutcome n hash «max_count» (now (buf .entry)) r (now (buf .exit)) ⌝ }
+{
+    as_inserted(
+        filter::writers::insert_fingerprint_counting_quick(buf, n, hash, max_count),
+        n,
+    )
+}

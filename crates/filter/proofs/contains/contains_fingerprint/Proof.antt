@@ -1,0 +1,50 @@
+-- `filter::contains::contains_fingerprint`: the check's number, or the core on a sound buffer. Assumes nothing.
+use mathlib.Core.Path.{refl, subst, _∙_}
+use denote.Ref.{now}
+use Rattle.filter.specs.Verdicts.{Judged}
+use Rattle.filter.specs.Judging.{checked-refused, checked-sound, clear-whole}
+use Rattle.filter.specs.Asking.{looked}
+use Rattle.filter.specs.declared.check.Verdict.the-variants.{Sound, Refused}
+use borrow.Author.Needs.{needs}
+use Rattle.filter.proofs.contains.contains_fingerprint.Statement.{statement}
+use Rattle.filter.proofs.contains.contains_fingerprint.Tie as tie
+
+-- the buffer is sound
+sound : (c : tie.After-enum-told) → Judged (c .before .before .before .before .args .n) (now (c .before .before .before .before .args .buf)) Sound
+sound c = subst (Judged _ _) (c .enum-told .given .1) (c .before .before .check .ensures)
+
+check-requires : tie.Need-check-requires
+check-requires c κs = search needs
+
+enum-known-verdict : tie.Need-enum-known-verdict
+enum-known-verdict c = search needs
+
+returns : tie.Need-returns
+returns c = checked-refused _ _ _ _ _ (subst (Judged _ _) (c .before .verdict .given .1) (c .before .before .before .check .ensures)) refl
+
+enum-told : tie.Need-enum-told
+enum-told c = search needs
+
+look-requires : tie.Need-look-requires
+look-requires c κs = clear-whole (c .before .before .before .before .args .n) (now (c .before .before .before .before .args .buf)) (sound c .none)
+
+lookup-from-requires : tie.Need-lookup-from-requires
+lookup-from-requires c κs = search needs
+
+returns-2 : tie.Need-returns-2
+returns-2 c =
+    let v = c .before .before in
+    let a = v .before .before .before .before .args in
+    checked-sound _ _ _ _ (sound v) (λ l h. c .lookup-from .ensures ∙ looked (a .n) (now (a .buf)) l (a .hash) _ (clear-whole (a .n) (now (a .buf)) (sound v .none) .widths) (c .before .look .ensures) h)
+
+pub contains-fingerprint-spec : {M : Type 1} → statement M
+contains-fingerprint-spec =
+    tie.close
+    (tie.spec
+    check-requires
+    enum-known-verdict
+    returns
+    enum-told
+    look-requires
+    lookup-from-requires
+    returns-2)

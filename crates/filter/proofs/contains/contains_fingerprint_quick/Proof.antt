@@ -1,0 +1,37 @@
+-- `filter::contains::contains_fingerprint_quick`: a number of 1 to 5, or the core. Assumes nothing.
+use Prim.Native.Nat.{_<_}
+use mathlib.Core.Path.{_≡_, refl, sym, _∙_}
+use native.Mathlib.Omega.{arith}
+use denote.Ref.{now}
+use Rattle.filter.specs.Verdicts.{lowestDue}
+use Rattle.filter.specs.Judging.{quick-refused, quick-worked, clear-whole}
+use Rattle.filter.specs.Asking.{looked}
+use borrow.Author.Needs.{needs}
+use Rattle.filter.proofs.contains.contains_fingerprint_quick.Statement.{statement}
+use Rattle.filter.proofs.contains.contains_fingerprint_quick.Tie as tie
+
+-- none of 1 to 5 is due
+clear : (c : tie.Else1) → lowestDue (c .before .before .before .args .n) (now (c .before .before .before .args .buf)) ≡ 0
+clear c = omega (arith, c .before .number-due .ensures)
+
+number-due-requires : tie.Need-number-due-requires
+number-due-requires c κs = search needs
+
+returns : tie.Need-returns
+returns c = quick-refused _ _ _ _ _ _ (c .before .number-due .ensures) (c .if1 .taken) refl tt
+
+look-requires : tie.Need-look-requires
+look-requires c κs = clear-whole (c .before .before .before .args .n) (now (c .before .before .before .args .buf)) (clear c)
+
+lookup-from-requires : tie.Need-lookup-from-requires
+lookup-from-requires c κs = search needs
+
+returns-2 : tie.Need-returns-2
+returns-2 c =
+    let v = c .before .before in
+    let a = v .before .before .before .args in
+    quick-worked _ _ _ _ _ (clear v) (λ l h. c .lookup-from .ensures ∙ looked (a .n) (now (a .buf)) l (a .hash) _ (clear-whole (a .n) (now (a .buf)) (clear v) .widths) (c .before .look .ensures) h) tt
+
+pub contains-fingerprint-quick-spec : {M : Type 1} → statement M
+contains-fingerprint-quick-spec =
+    tie.close (tie.spec number-due-requires returns look-requires lookup-from-requires returns-2)

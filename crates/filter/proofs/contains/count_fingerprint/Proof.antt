@@ -1,0 +1,40 @@
+-- `filter::contains::count_fingerprint`: the check's number, or the core on a sound buffer. Assumes nothing.
+use mathlib.Core.Path.{refl, subst, _∙_}
+use denote.Ref.{now}
+use Rattle.filter.specs.Verdicts.{Judged}
+use Rattle.filter.specs.Judging.{checked-refused, checked-sound, clear-whole}
+use Rattle.filter.specs.Asking.{counted}
+use Rattle.filter.specs.declared.check.Verdict.the-variants.{Sound, Refused}
+use borrow.Author.Needs.{needs}
+use Rattle.filter.proofs.contains.count_fingerprint.Statement.{statement}
+use Rattle.filter.proofs.contains.count_fingerprint.Tie as tie
+
+-- the buffer is sound
+sound : (c : tie.After-enum-told) → Judged (c .before .before .before .before .args .n) (now (c .before .before .before .before .args .buf)) Sound
+sound c = subst (Judged _ _) (c .enum-told .given .1) (c .before .before .check .ensures)
+
+check-requires : tie.Need-check-requires
+check-requires c κs = search needs
+
+enum-known-verdict : tie.Need-enum-known-verdict
+enum-known-verdict c = search needs
+
+returns : tie.Need-returns
+returns c = checked-refused _ _ _ _ _ (subst (Judged _ _) (c .before .verdict .given .1) (c .before .before .before .check .ensures)) refl
+
+enum-told : tie.Need-enum-told
+enum-told c = search needs
+
+tally-requires : tie.Need-tally-requires
+tally-requires c κs = clear-whole (c .before .before .before .before .args .n) (now (c .before .before .before .before .args .buf)) (sound c .none)
+
+returns-2 : tie.Need-returns-2
+returns-2 c =
+    let v = c .before in
+    let a = v .before .before .before .before .args in
+    checked-sound _ _ _ _ (sound v) (λ l h. counted (a .n) (now (a .buf)) l (a .hash) _ (clear-whole (a .n) (now (a .buf)) (sound v .none) .widths) (c .tally .ensures) h)
+
+pub count-fingerprint-spec : {M : Type 1} → statement M
+count-fingerprint-spec =
+    tie.close
+    (tie.spec check-requires enum-known-verdict returns enum-told tally-requires returns-2)

@@ -1,0 +1,30 @@
+-- `filter::listing::step_from`: numbers 1 to 5, then the core. Assumes nothing.
+use mathlib.Core.Path.{_≡_, sym, _∙_}
+use native.Mathlib.Omega.{arith}
+use denote.Ref.{now}
+use Rattle.filter.specs.Verdicts.{lowestDue}
+use Rattle.filter.specs.Listing.{listed-refused, passed-whole, listed-core}
+use borrow.Author.Needs.{needs}
+use Rattle.filter.proofs.listing.step_from.Statement.{statement}
+use Rattle.filter.proofs.listing.step_from.Tie as tie
+
+-- none was due
+none : (c : tie.Else1) → lowestDue (c .before .before .before .args .n) (now (c .before .before .before .args .buf)) ≡ 0
+none c = sym (c .before .number-due .ensures) ∙ omega arith
+
+number-due-requires : tie.Need-number-due-requires
+number-due-requires c κs = search needs
+
+returns : tie.Need-returns
+returns c = listed-refused _ _ _ _ (c .before .number-due .ensures) (c .if1 .taken)
+
+step-core-requires : tie.Need-step-core-requires
+step-core-requires c κs = passed-whole (c .before .before .before .args .n) (now (c .before .before .before .args .buf)) (none c)
+
+returns-2 : tie.Need-returns-2
+returns-2 c =
+    let a = c .before .before .before .before .args in
+    listed-core (a .n) (now (a .buf)) (none (c .before)) (a .place) _ (c .step-core .ensures)
+
+pub step-from-spec : {M : Type 1} → statement M
+step-from-spec = tie.close (tie.spec number-due-requires returns step-core-requires returns-2)

@@ -1,0 +1,208 @@
+-- What follows of the promises of a listing: from the first place on the steps give exactly the list held and then done, each place between is
+-- that after so many steps, and the promises leave no choice. Assumes nothing.
+use Prim.Native.Nat.{ℕ, zero, suc, _+_, _-_, _≤_, _<_}
+use mathlib.Core.Path.{_≡_, refl, sym, ap, ap₂, subst, _∙_}
+use mathlib.Core.Logic.{_⊎_, inl, inr}
+use mathlib.Core.List.{List, [], _∷_, _++_, map}
+use native.Mathlib.Omega.{arith}
+use native.Mathlib.Decide.{decLt}
+use native.Mathlib.Nat.{add-zero, eq-zero-or-pos}
+use lib.ListN.{length, getD, take, drop, length-drop, replicate}
+use lib.Seq.{drop-cons}
+use Rattle.theory.specs.layout.Images.{image-tells}
+use Rattle.theory.specs.check.Decides.{sound-dec}
+use Rattle.theory.specs.check.Promises.{checked-one}
+use denote.Ref.{now}
+use Rattle.filter.specs.declared.numbers.Numbers.{Numbers}
+use Rattle.filter.specs.declared.listing.Place.{Place}
+use Rattle.filter.specs.declared.listing.Step.{Step}
+use Rattle.filter.specs.declared.listing.Step.the-variants.{Fingerprint, Done}
+use Rattle.filter.specs.declared.listing.Stepped.{Stepped}
+use Rattle.filter.specs.declared.listing.Begun.{Begun}
+use Rattle.filter.specs.declared.listing.Begun.the-variants as begun
+use Rattle.filter.specs.declared.reader.Reader.{Reader}
+use Rattle.filter.specs.declared.reader.Two.{Two}
+use Rattle.filter.specs.Verdicts.{lowestDue, SoundOf}
+use Rattle.filter.specs.Places.{stepped, nowhere, done, placeOf, stepOf, place-none, place-left, step-some, step-none}
+use Rattle.filter.specs.Listing.{HoldsOf, Begins, Listed, passed-whole}
+use Rattle.filter.specs.Reading.{Moved, TwoListed}
+
+-- ---- the steps of a list
+module _ (q r : ℕ) (l : List ℕ) where
+  -- the answers of c steps from step k on
+  unfoldable pub answers : ℕ → ℕ → List Step
+  answers k zero = []
+  answers k (suc c) = stepOf q r l k .step ∷ answers (suc k) c
+
+  -- each step leaves the place after it
+  step-place : (k : ℕ) → stepOf q r l k .place ≡ placeOf q r l (suc k)
+  step-place k = go (decLt k (length l))
+    where
+      go : Dec (k < length l) → stepOf q r l k .place ≡ placeOf q r l (suc k)
+      go (yes b) = ap (λ (z : Stepped). z .place) (step-some q r l k b)
+      go (no b) = ap (λ (z : Stepped). z .place) (step-none q r l k (omega arith)) ∙ sym (place-none q r l (suc k) (omega arith))
+
+  answers-from : (rest : List ℕ) (k : ℕ) → drop k l ≡ rest → answers k (suc (length rest)) ≡ map Fingerprint rest ++ (Done ∷ [])
+  unfolding answers
+  answers-from [] k e = ap (λ (z : Stepped). z .step ∷ []) (step-none q r l k (omega (arith, length-drop k l, ap length e)))
+  answers-from (f ∷ rest) k e =
+      let b : k < length l = omega (arith, length-drop k l, ap length e) in
+      let c : getD l k 0 ∷ drop (suc k) l ≡ f ∷ rest = sym (drop-cons l k 0 b) ∙ e in
+      let d : getD l k 0 ≡ f = cc in
+      let g : drop (suc k) l ≡ rest = cc in
+      ap₂ _∷_ (ap (λ (z : Stepped). z .step) (step-some q r l k b) ∙ ap Fingerprint d) (answers-from rest (suc k) g)
+
+  -- all of the list, then done
+  pub answers-all : answers 0 (suc (length l)) ≡ map Fingerprint l ++ (Done ∷ [])
+  answers-all = answers-from l 0 refl
+
+  answers-part : (c k : ℕ) → k + c ≤ length l → answers k c ≡ map Fingerprint (take c (drop k l))
+  unfolding answers
+  answers-part zero k b = refl
+  answers-part (suc c) k b =
+      let d : k < length l = omega arith in
+      rw (drop-cons l k 0 d) (ap₂ _∷_ (ap (λ (z : Stepped). z .step) (step-some q r l k d)) (answers-part c (suc k) (omega arith)))
+
+  -- a place of the list tells how many steps were taken
+  pub place-tells : (j k : ℕ) → j ≤ length l → k ≤ length l → placeOf q r l j ≡ placeOf q r l k → j ≡ k
+  place-tells j k a b e = omega (arith, place-left q r l j, place-left q r l k, ap (λ (p : Place). p .remaining) e)
+
+  same-step : (j k : ℕ) → placeOf q r l j ≡ placeOf q r l k → stepOf q r l j ≡ stepOf q r l k
+  same-step j k e = go (decLt j (length l))
+    where
+      left : length l - j ≡ length l - k
+      left = sym (place-left q r l j) ∙ ap (λ (p : Place). p .remaining) e ∙ place-left q r l k
+
+      go : Dec (j < length l) → stepOf q r l j ≡ stepOf q r l k
+      go (yes b) = ap (stepOf q r l) (omega (arith, left))
+      go (no b) = step-none q r l j (omega arith) ∙ sym (step-none q r l k (omega (arith, left)))
+
+-- ---- steps one after the other, each from the place that the one before left
+unfoldable pub Goes : Numbers → List ℕ → Place → List Step → Place → Type 0
+Goes n s p [] p′ = p ≡ p′
+Goes n s p (a ∷ ts) p′ = (m : Place) × Listed n s p (stepped a m) × Goes n s m ts p′
+
+module _ (n : Numbers) (s l : List ℕ) (e : lowestDue n s ≡ 0) (h : HoldsOf n s l) where
+  -- any steps from step k on
+  goes-from : (ts : List Step) (k : ℕ) (p p′ : Place) → p ≡ placeOf (n .qbits) (n .rbits) l k → Goes n s p ts p′
+      → (ts ≡ answers (n .qbits) (n .rbits) l k (length ts)) × (p′ ≡ placeOf (n .qbits) (n .rbits) l (k + length ts))
+  unfolding Goes answers
+  goes-from [] k p p′ f g = (refl, sym g ∙ f ∙ ap (placeOf (n .qbits) (n .rbits) l) (sym (add-zero k)))
+  goes-from (a ∷ ts) k p p′ f g =
+      let t : stepped a (g .0) ≡ stepOf (n .qbits) (n .rbits) l k = g .1 .right e l h k f in
+      let i = goes-from ts (suc k) (g .0) p′ (ap (λ (z : Stepped). z .place) t ∙ step-place (n .qbits) (n .rbits) l k) (g .2) in
+      let j : suc k + length ts ≡ k + suc (length ts) = omega arith in
+      (ap₂ _∷_ (ap (λ (z : Stepped). z .step) t) (i .0), rw j at (i .1))
+
+  -- after so many steps from the first place, the place is the one defined
+  pub place-after : (ts : List Step) (p : Place) → Goes n s (placeOf (n .qbits) (n .rbits) l 0) ts p → p ≡ placeOf (n .qbits) (n .rbits) l (length ts)
+  place-after ts p g =
+      let z : 0 + length ts ≡ length ts = omega arith in
+      rw z at (goes-from ts 0 _ p refl g .1)
+
+  -- len steps or fewer from the first place give as many fingerprints of the list held, so none of them is done
+  pub part-listing : (ts : List Step) (p : Place) → length ts ≤ n .len → Goes n s (placeOf (n .qbits) (n .rbits) l 0) ts p → ts ≡ map Fingerprint (take (length ts) l)
+  part-listing ts p c g = goes-from ts 0 _ p refl g .0 ∙ answers-part (n .qbits) (n .rbits) l (length ts) 0 (omega (arith, h .many))
+
+  -- len + 1 steps give exactly the list held, then done
+  pub whole-listing : (ts : List Step) (p : Place) → length ts ≡ suc (n .len) → Goes n s (placeOf (n .qbits) (n .rbits) l 0) ts p
+      → (ts ≡ map Fingerprint l ++ (Done ∷ [])) × (p ≡ nowhere)
+  whole-listing ts p c g =
+      let d : length ts ≡ suc (length l) = c ∙ ap suc (sym (h .many)) in (
+        goes-from ts 0 _ p refl g .0 ∙ ap (answers (n .qbits) (n .rbits) l 0) d ∙ answers-all (n .qbits) (n .rbits) l,
+        place-after ts p g ∙ place-none (n .qbits) (n .rbits) l (length ts) (omega arith),
+      )
+
+  -- the promise can be kept at every place of the list, so there are such steps
+  pub listed-is : (k : ℕ) → Listed n s (placeOf (n .qbits) (n .rbits) l k) (stepOf (n .qbits) (n .rbits) l k)
+  listed-is k = record {
+    refused = λ d. absurd (omega arith);
+    stays = λ _ z. step-none (n .qbits) (n .rbits) l k (omega (arith, place-left (n .qbits) (n .rbits) l k, ap (λ (p : Place). p .remaining) z));
+    right = λ _ l′ h′ k′ z.
+        let t : l′ ≡ l = image-tells (n .qbits) (n .rbits) (passed-whole n s e .widths .low) l′ l (h′ .holding) (h .holding) (sym (h′ .bytes) ∙ h .bytes) in
+        same-step (n .qbits) (n .rbits) l k k′ (z ∙ ap (λ (y : List ℕ). placeOf (n .qbits) (n .rbits) y k′) t)
+        ∙ ap (λ (y : List ℕ). stepOf (n .qbits) (n .rbits) y k′) (sym t);
+  }
+
+  pub goes-on : (c k : ℕ) → Goes n s (placeOf (n .qbits) (n .rbits) l k) (answers (n .qbits) (n .rbits) l k c) (placeOf (n .qbits) (n .rbits) l (k + c))
+  unfolding Goes answers
+  goes-on zero k = ap (placeOf (n .qbits) (n .rbits) l) (sym (add-zero k))
+  goes-on (suc c) k =
+      let j : suc k + c ≡ k + suc c = omega arith in
+      let i = rw j at (goes-on c (suc k)) in
+      (stepOf (n .qbits) (n .rbits) l k .place, listed-is k, rw (step-place (n .qbits) (n .rbits) l k) i)
+
+-- a beginning that is not refused, and len + 1 steps from its place: the buffer holds a list, and these are its fingerprints, then done
+pub begun-listing : (n : Numbers) (s : List ℕ) (p p′ : Place) (ts : List Step) → Begins n s (begun.At p) → length ts ≡ suc (n .len) → Goes n s p ts p′
+    → (l : List ℕ) × HoldsOf n s l × (ts ≡ map Fingerprint l ++ (Done ∷ [])) × (p′ ≡ nowhere)
+begun-listing n s p p′ ts b c g = go (eq-zero-or-pos (lowestDue n s)) (sound-dec (n .qbits) (n .rbits) (n .len) (n .«max_qbits») s)
+  where
+    never : (k : ℕ) → begun.At p ≡ begun.Refused k → ⊥
+    never k e = let z : _≡_ {A = ℕ} 0 1 = cc in omega arith
+
+    go : (lowestDue n s ≡ 0) ⊎ (0 < lowestDue n s) → Dec (SoundOf n s) → (l : List ℕ) × HoldsOf n s l × (ts ≡ map Fingerprint l ++ (Done ∷ [])) × (p′ ≡ nowhere)
+    go (inr d) y = absurd (never _ (b .early d))
+    go (inl e) (no y) = absurd (never _ (b .damaged e y))
+    go (inl e) (yes y) =
+        let f : begun.At p ≡ begun.At (placeOf (n .qbits) (n .rbits) (y .held) 0) = b .sound e (y .held) (y .holds) in
+        let at : p ≡ placeOf (n .qbits) (n .rbits) (y .held) 0 = cc in
+        let w = whole-listing n s (y .held) e (y .holds) ts p′ c (subst (λ (m : Place). Goes n s m ts p′) at g) in
+        (y .held, y .holds, w .0, w .1)
+
+-- done stays done, whatever the buffer is, if none of 1 to 5 is due
+pub done-stays : (n : Numbers) (s : List ℕ) → lowestDue n s ≡ 0 → (ts : List Step) (p : Place) → Goes n s nowhere ts p → (ts ≡ replicate (length ts) Done) × (p ≡ nowhere)
+unfolding Goes replicate
+done-stays n s e [] p g = (refl, sym g)
+done-stays n s e (a ∷ ts) p g =
+    let t : stepped a (g .0) ≡ done = g .1 .stays e refl in
+    let i = done-stays n s e ts p (subst (λ (m : Place). Goes n s m ts p) (ap (λ (z : Stepped). z .place) t) (g .2)) in
+    (ap₂ _∷_ (ap (λ (z : Stepped). z .step) t) (i .0), i .1)
+
+-- ---- what the promises pin down
+-- a number is due, or none remain, or the buffer is sound and the place is one of the list held
+abbrev pub Fixed : Numbers → List ℕ → Place → Type 0
+Fixed n s p = (0 < lowestDue n s) ⊎ ((p ≡ nowhere) ⊎ ((l : List ℕ) × (k : ℕ) × HoldsOf n s l × (p ≡ placeOf (n .qbits) (n .rbits) l k)))
+
+pub listed-one : (n : Numbers) (s : List ℕ) (p : Place) → Fixed n s p → (a b : Stepped) → Listed n s p a → Listed n s p b → a ≡ b
+listed-one n s p f a b x y = go f (eq-zero-or-pos (lowestDue n s))
+  where
+    go : Fixed n s p → (lowestDue n s ≡ 0) ⊎ (0 < lowestDue n s) → a ≡ b
+    go f (inr d) = x .refused d ∙ sym (y .refused d)
+    go (inl d) (inl e) = absurd (omega arith)
+    go (inr (inl z)) (inl e) = x .stays e z ∙ sym (y .stays e z)
+    go (inr (inr z)) (inl e) = x .right e (z .0) (z .2) (z .1) (z .3) ∙ sym (y .right e (z .0) (z .2) (z .1) (z .3))
+
+pub begins-one : (n : Numbers) (s : List ℕ) (a b : Begun) → Begins n s a → Begins n s b → a ≡ b
+begins-one n s =
+    checked-one (λ k a. a ≡ begun.Refused k) (λ l a. a ≡ begun.At (placeOf (n .qbits) (n .rbits) l 0)) (n .qbits) (n .rbits) (n .len) (n .«max_qbits») s
+    (λ k a b x y. x ∙ sym y) (λ l h a b x y. x ∙ sym y)
+
+-- a step from a place that is pinned down leaves one that is
+fixed-next : (n : Numbers) (s : List ℕ) (p : Place) → Fixed n s p → (a : Stepped) → Listed n s p a → Fixed n s (a .place)
+fixed-next n s p f a x = go f (eq-zero-or-pos (lowestDue n s))
+  where
+    go : Fixed n s p → (lowestDue n s ≡ 0) ⊎ (0 < lowestDue n s) → Fixed n s (a .place)
+    go f (inr d) = inl d
+    go (inl d) (inl e) = inl d
+    go (inr (inl z)) (inl e) = inr (inl (ap (λ (y : Stepped). y .place) (x .stays e z)))
+    go (inr (inr z)) (inl e) =
+        inr (inr (z .0, suc (z .1), z .2, ap (λ (y : Stepped). y .place) (x .right e (z .0) (z .2) (z .1) (z .3)) ∙ step-place (n .qbits) (n .rbits) (z .0) (z .1)))
+
+pub moved-one : (r : Reader) → Fixed (r .numbers) (now (r .buf)) (r .place) → (a b : Step) (r₁ r₂ : Reader) → Moved r a r₁ → Moved r b r₂ → (a ≡ b) × (r₁ ≡ r₂)
+moved-one r f a b r₁ r₂ x y =
+    (ap (λ (z : Stepped). z .step) one, x .kept ∙ ap (λ (z : Stepped). record { buf = r .buf; numbers = r .numbers; place = z .place }) one ∙ sym (y .kept))
+  where
+    one : stepped a (r₁ .place) ≡ stepped b (r₂ .place)
+    one = listed-one (r .numbers) (now (r .buf)) (r .place) f _ _ (x .listed) (y .listed)
+
+pub two-one : (n : Numbers) (s : List ℕ) (p : Place) → Fixed n s p → (a b : Two) → TwoListed n s p a → TwoListed n s p b → a ≡ b
+two-one n s p f a b x y = λ i. record { first = one i .step; second = two i .step; place = two i .place }
+  where
+    one : stepped (a .first) (x .between) ≡ stepped (b .first) (y .between)
+    one = listed-one n s p f _ _ (x .first) (y .first)
+
+    back : y .between ≡ x .between
+    back = sym (ap (λ (z : Stepped). z .place) one)
+
+    two : stepped (a .second) (a .place) ≡ stepped (b .second) (b .place)
+    two = listed-one n s (x .between) (fixed-next n s p f _ (x .first)) _ _ (x .second) (subst (λ (m : Place). Listed n s m (stepped (b .second) (b .place))) back (y .second))

@@ -1,0 +1,101 @@
+// Lookup and count, checked and quick: thin shells over one core.
+ghost use mathlib.Core.Path.{_≡_};
+ghost use Rattle.filter.specs.Asking.{Contains, ContainsQuick, Count, CountQuick, lookupFrom};
+use crate::check::Verdict;
+use crate::check::check;
+use crate::lookup::Seen;
+use crate::lookup::look;
+use crate::lookup::tally;
+use crate::numbers::Numbers;
+use crate::numbers::number_due;
+use crate::shape::Shape;
+
+// Held or not, with the number of remainders compared; or refused.
+pub enum Lookup {
+    Held(u64),
+    Absent(u64),
+    Refused(u8),
+}
+
+// How often a fingerprint is held; or refused.
+pub enum Counting {
+    Copies(u64),
+    Refused(u8),
+}
+
+fn lookup_from(seen: Seen) -> Lookup
+    ensures { λ r. ⌜ r ≡ lookupFrom seen ⌝ }
+{
+    match seen {
+        Seen::At(k) => Lookup::Held(k),
+        Seen::Absent(k) => Lookup::Absent(k),
+    }
+}
+
+pub fn contains_fingerprint(buf: &[u8], n: Numbers, hash: u64) -> Lookup
+    ensures { λ r. ⌜ Contains n (now (buf .entry)) hash r ⌝ }
+{
+    let verdict = check(buf, n);
+    if let Verdict::Refused(k) = verdict {
+        return Lookup::Refused(k);
+    }
+    lookup_from(look(
+        buf,
+        Shape {
+            qbits: n.qbits,
+            rbits: n.rbits,
+        },
+        hash,
+    ))
+}
+
+pub fn contains_fingerprint_quick(buf: &[u8], n: Numbers, hash: u64) -> Lookup
+    ensures { λ r. ⌜ ContainsQuick n (now (buf .entry)) hash r ⌝ }
+{
+    let due = number_due(buf.len(), n);
+    if 0 < due {
+        return Lookup::Refused(due);
+    }
+    lookup_from(look(
+        buf,
+        Shape {
+            qbits: n.qbits,
+            rbits: n.rbits,
+        },
+        hash,
+    ))
+}
+
+pub fn count_fingerprint(buf: &[u8], n: Numbers, hash: u64) -> Counting
+    ensures { λ r. ⌜ Count n (now (buf .entry)) hash r ⌝ }
+{
+    let verdict = check(buf, n);
+    if let Verdict::Refused(k) = verdict {
+        return Counting::Refused(k);
+    }
+    Counting::Copies(tally(
+        buf,
+        Shape {
+            qbits: n.qbits,
+            rbits: n.rbits,
+        },
+        hash,
+    ))
+}
+
+pub fn count_fingerprint_quick(buf: &[u8], n: Numbers, hash: u64) -> Counting
+    ensures { λ r. ⌜ CountQuick n (now (buf .entry)) hash r ⌝ }
+{
+    let due = number_due(buf.len(), n);
+    if 0 < due {
+        return Counting::Refused(due);
+    }
+    Counting::Copies(tally(
+        buf,
+        Shape {
+            qbits: n.qbits,
+            rbits: n.rbits,
+        },
+        hash,
+    ))
+}

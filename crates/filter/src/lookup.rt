@@ -1,0 +1,115 @@
+// Is a fingerprint held, and how often.
+ghost use mathlib.Core.Path.{_≡_};
+ghost use Prim.Native.Nat.{ℕ, _+_, _*_, _/_, _%_, _^_, _<_, _≤_};
+ghost use lib.ListN.{length};
+ghost use Rattle.theory.specs.Shape.{slots, fingerprint, Widths};
+ghost use Rattle.theory.specs.number.Bytes.{le};
+ghost use Rattle.theory.specs.layout.Block.{views};
+ghost use Rattle.filter.specs.Whole.{Whole};
+ghost use Rattle.filter.specs.Scan.{Sought, Counted};
+ghost use Rattle.filter.specs.Lookup.{Seeks, Counts};
+use crate::runs::run_start;
+use crate::shape::Shape;
+use crate::slot;
+
+// What a scan of a run finds: the place, from 1, of the first equal remainder, or how many there are, none of them equal.
+pub enum Seen {
+    At(u64),
+    Absent(u64),
+}
+
+// The quotient and the remainder of the fingerprint that a hash has.
+pub fn quotient(shape: Shape, hash: u64) -> u64
+    requires { ⌜ Widths (shape .qbits) (shape .rbits) ⌝ }
+    ensures { λ r. ⌜ (r ≡ fingerprint (shape .qbits) (shape .rbits) hash / 2 ^ shape .rbits) × (r < slots (shape .qbits)) ⌝ }
+{
+    (hash >> shape.rbits) % shape.slots()
+}
+
+pub fn remainder(shape: Shape, hash: u64) -> u64
+    requires { ⌜ Widths (shape .qbits) (shape .rbits) ⌝ }
+    ensures { λ r. ⌜ (r ≡ fingerprint (shape .qbits) (shape .rbits) hash % 2 ^ shape .rbits) × (r < 2 ^ shape .rbits) ⌝ }
+{
+    hash % bits::bit::pow2(shape.rbits as u64)
+}
+
+// The first remainder equal to `rem` in the run that starts at slot `at`, left from inside once it or the run's end is met.
+fn seek(buf: &[u8], shape: Shape, at: u64, rem: u64) -> Seen
+    requires { ⌜ (Whole shape (length (now buf))) × (at < slots (shape .qbits)) ⌝ }
+    ensures { λ r. ⌜ Sought (slots (shape .qbits)) (views (shape .rbits) (le (now (buf .entry)))) at rem r ⌝ }
+{
+    let slots = shape.slots();
+    let mut k = 0;
+    let seen = loop {
+        let s = (at + k) % slots;
+        k += 1;
+        if slot::get_remainder(buf, shape, s) == rem {
+            break Seen::At(k);
+        }
+        if slot::is_runend(buf, shape, s) == 1 {
+            break Seen::Absent(k);
+        }
+        if k == slots {
+            break Seen::Absent(k);
+        }
+    };
+    seen
+}
+
+// The scan of the run that a hash belongs to.
+pub fn look(buf: &[u8], shape: Shape, hash: u64) -> Seen
+    requires { ⌜ Whole shape (length (now buf)) ⌝ }
+    ensures { λ r. ⌜ Seeks shape (now (buf .entry)) hash r ⌝ }
+{
+    let x = quotient(shape, hash);
+    if slot::is_occupied(buf, shape, x) == 0 {
+        return Seen::Absent(0);
+    }
+    seek(buf, shape, run_start(buf, shape, x), remainder(shape, hash))
+}
+
+// 1 if a equals b, else 0.
+pub fn equal(a: u64, b: u64) -> u64
+    ensures { λ r. ⌜ (a ≡ b → r ≡ 1) × ((a ≡ b → ⊥) → r ≡ 0) × (r ≤ 1) ⌝ }
+{
+    if a == b { 1 } else { 0 }
+}
+
+// How many remainders equal `rem` in the run that starts at slot `at`, from its place `from` on.
+fn count_from(buf: &[u8], shape: Shape, at: u64, from: u64, rem: u64) -> u64
+    requires { ⌜ (Whole shape (length (now buf))) × (at < slots (shape .qbits)) × (from < slots (shape .qbits)) ⌝ }
+    ensures { λ r. ⌜ Counted (slots (shape .qbits)) (views (shape .rbits) (le (now (buf .entry)))) at from rem r ⌝ }
+{
+    let slots = shape.slots();
+    let mut k = from;
+    let mut count = 0;
+    let all = loop {
+        let s = (at + k) % slots;
+        k += 1;
+        count += equal(slot::get_remainder(buf, shape, s), rem);
+        if slot::is_runend(buf, shape, s) == 1 {
+            break count;
+        }
+        if k == slots {
+            break count;
+        }
+    };
+    all
+}
+
+// How often the fingerprint of a hash is held.
+pub fn tally(buf: &[u8], shape: Shape, hash: u64) -> u64
+    requires { ⌜ Whole shape (length (now buf)) ⌝ }
+    ensures { λ r. ⌜ Counts shape (now (buf .entry)) hash r ⌝ }
+{
+    let x = quotient(shape, hash);
+    if slot::is_occupied(buf, shape, x) == 0 {
+        return 0;
+    }
+    let at = run_start(buf, shape, x);
+    let rem = remainder(shape, hash);
+    let Seen::At(k) = seek(buf, shape, at, rem) else {
+        return 0;
+    };
+    count_from(buf, shape, at, k - 1, rem)
+}

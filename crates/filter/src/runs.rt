@@ -1,0 +1,178 @@
+// Where runs start and end: occupieds counted in a block, runends selected from its offset on.
+ghost use mathlib.Core.Path.{_≡_};
+ghost use Prim.Native.Nat.{ℕ, _+_, _*_, _^_, _<_, _≤_, max};
+ghost use lib.ListN.{length};
+ghost use Rattle.theory.specs.Shape.{slots, blocks};
+ghost use Rattle.theory.specs.number.Bytes.{le};
+ghost use Rattle.theory.specs.layout.Block.{views};
+ghost use Rattle.theory.specs.layout.Ring.{ringAt};
+ghost use Rattle.filter.specs.Whole.{Whole};
+ghost use Rattle.filter.specs.Runs.{InWord, NthRunend, Behind, Back, OffsetOf, RunStart, RunEnd, FreeFrom};
+use crate::shape::Shape;
+use crate::slot;
+use bits::select::Found;
+
+// What a word says of the runend looked for: its digit, or how many are left behind the word.
+pub enum InBlock {
+    End(u64),
+    On(u64),
+}
+
+fn runend_in(w: u64, skip: u64, left: u64) -> InBlock
+    requires { ⌜ skip < 64 ⌝ }
+    ensures { λ r. ⌜ InWord w skip left r ⌝ }
+{
+    let high = w >> skip;
+    let Found::At(p) = bits::select::select(high, left) else {
+        return InBlock::On(left - bits::count::ones(high));
+    };
+    InBlock::End(skip + p)
+}
+
+// The n-th runend from slot `at` on, round the end.
+fn nth_runend(buf: &[u8], shape: Shape, at: u64, n: u64) -> Found
+    requires { ⌜ (Whole shape (length (now buf))) × (at < 2 ^ 61) ⌝ }
+    ensures { λ r. ⌜ NthRunend (ringAt (shape .rbits) 9 (slots (shape .qbits)) (le (now (buf .entry)))) (slots (shape .qbits)) at n r ⌝ }
+{
+    let blocks = shape.blocks();
+    let last = at / 64 + blocks;
+    let mut k = at / 64;
+    let mut skip = at % 64;
+    let mut left = n;
+    while k <= last {
+        let found = runend_in(slot::runends(buf, shape, k % blocks), skip, left);
+        match found {
+            InBlock::End(p) => {
+                return Found::At(64 * k + p);
+            }
+            InBlock::On(rest) => {
+                left = rest;
+            }
+        }
+        skip = 0;
+        k += 1;
+    }
+    Found::Nothing
+}
+
+pub fn larger(a: u64, b: u64) -> u64
+    ensures { λ r. ⌜ r ≡ max a b ⌝ }
+{
+    if a < b { b } else { a }
+}
+
+// The slot behind the run of x, if o is the offset of its block.
+pub fn behind_run(buf: &[u8], shape: Shape, x: u64, o: u64) -> Found
+    requires { ⌜ (Whole shape (length (now buf))) × (x < slots (shape .qbits)) × (o ≤ 2 ^ 60) ⌝ }
+    ensures { λ r. ⌜ Behind (slots (shape .qbits)) (views (shape .rbits) (le (now (buf .entry)))) x o r ⌝ }
+{
+    let b = x / 64;
+    let k = bits::count::ones_through(slot::occupieds(buf, shape, b), x % 64);
+    if k == 0 {
+        return Found::At(larger(x + 1, 64 * b + o));
+    }
+    let Found::At(p) = nth_runend(buf, shape, 64 * b + o, k - 1) else {
+        return Found::Nothing;
+    };
+    Found::At(larger(x + 1, p + 1))
+}
+
+// How many blocks before b, round the end, the nearest one stands whose byte is below 255; 0 if there is none.
+fn blocks_back(buf: &[u8], shape: Shape, b: u64) -> u64
+    requires { ⌜ (Whole shape (length (now buf))) × (b < blocks (shape .qbits)) ⌝ }
+    ensures { λ r. ⌜ Back (blocks (shape .qbits)) (views (shape .rbits) (le (now (buf .entry)))) b r ⌝ }
+{
+    let blocks = shape.blocks();
+    let mut k = 1;
+    while k <= blocks {
+        if slot::offset_byte(buf, shape, (b + blocks - k) % blocks) < 255 {
+            return k;
+        }
+        k += 1;
+    }
+    0
+}
+
+// The true offset of block b where 255 stands there: from the nearest block before it that tells its own, a block at a time.
+fn calc_offset(buf: &[u8], shape: Shape, b: u64) -> u64
+    requires { ⌜ (Whole shape (length (now buf))) × (b < blocks (shape .qbits)) ⌝ }
+    ensures { λ r. ⌜ OffsetOf (slots (shape .qbits)) (views (shape .rbits) (le (now (buf .entry)))) b r ⌝ }
+{
+    let slots = shape.slots();
+    let blocks = shape.blocks();
+    let back = blocks_back(buf, shape, b);
+    if back == 0 {
+        return 0;
+    }
+    let mut j = b + blocks - back;
+    let mut o = slot::offset_byte(buf, shape, j % blocks);
+    while j < b + blocks {
+        let first = 64 * (j % blocks);
+        let Found::At(s) = behind_run(buf, shape, first + 63, o) else {
+            return 0;
+        };
+        o = s - (first + 64);
+        if slots < o {
+            return 0;
+        }
+        j += 1;
+    }
+    o
+}
+
+// The carry before block b.
+pub fn offset(buf: &[u8], shape: Shape, b: u64) -> u64
+    requires { ⌜ (Whole shape (length (now buf))) × (b < blocks (shape .qbits)) ⌝ }
+    ensures { λ r. ⌜ OffsetOf (slots (shape .qbits)) (views (shape .rbits) (le (now (buf .entry)))) b r ⌝ }
+{
+    let o = slot::offset_byte(buf, shape, b);
+    if o < 255 {
+        return o;
+    }
+    calc_offset(buf, shape, b)
+}
+
+// The last slot of the run of x; of an empty run, the slot before the next quotient's.
+pub fn run_end(buf: &[u8], shape: Shape, x: u64) -> u64
+    requires { ⌜ (Whole shape (length (now buf))) × (x < slots (shape .qbits)) ⌝ }
+    ensures { λ r. ⌜ RunEnd (slots (shape .qbits)) (views (shape .rbits) (le (now (buf .entry)))) x r ⌝ }
+{
+    let Found::At(s) = behind_run(buf, shape, x, offset(buf, shape, x / 64)) else {
+        return x;
+    };
+    (s - 1) % shape.slots()
+}
+
+// The first slot of the run of x: the one behind the run of the quotient before.
+pub fn run_start(buf: &[u8], shape: Shape, x: u64) -> u64
+    requires { ⌜ (Whole shape (length (now buf))) × (x < slots (shape .qbits)) ⌝ }
+    ensures { λ r. ⌜ RunStart (slots (shape .qbits)) (views (shape .rbits) (le (now (buf .entry)))) x r ⌝ }
+{
+    let slots = shape.slots();
+    let y = (x + slots - 1) % slots;
+    let Found::At(s) = behind_run(buf, shape, y, offset(buf, shape, y / 64)) else {
+        return x;
+    };
+    s % slots
+}
+
+// The first free slot from slot x on, not taken round the end: from each slot that is used on to the one behind its run.
+pub fn first_free(buf: &[u8], shape: Shape, x: u64) -> Found
+    requires { ⌜ (Whole shape (length (now buf))) × (x < slots (shape .qbits)) ⌝ }
+    ensures { λ r. ⌜ FreeFrom (slots (shape .qbits)) (views (shape .rbits) (le (now (buf .entry)))) x r ⌝ }
+{
+    let slots = shape.slots();
+    let mut s = x;
+    while s < x + slots {
+        let y = s % slots;
+        let Found::At(t) = behind_run(buf, shape, y, offset(buf, shape, y / 64)) else {
+            return Found::Nothing;
+        };
+        let gap = t - y;
+        if gap + slot::is_runend(buf, shape, y) == 1 {
+            return Found::At(s);
+        }
+        s += gap;
+    }
+    Found::Nothing
+}

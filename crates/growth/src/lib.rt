@@ -1,0 +1,1 @@
+// Growth, merge and insert with a spare, over the filter's promises.

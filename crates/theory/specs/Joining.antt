@@ -1,0 +1,58 @@
+-- Growth and merge of document 01, on the lists held. `keep` is 0 for a merge without duplicates.
+use Prim.Native.Nat.{ℕ, zero, suc, _+_, _-_, _≤_, _<_, max}
+use mathlib.Core.List.{List, [], _∷_, map}
+use native.Mathlib.Decide.{decLe, decLt, ℕ-discrete}
+use lib.ListN.{length}
+use Rattle.theory.specs.tools.Choose.{choose}
+use Rattle.theory.specs.Holding.{copies, more}
+use Rattle.theory.specs.Shape.{capacity, fingerprint}
+use Rattle.theory.specs.Planning.{widthFrom}
+
+-- all are added, one copy for each
+unfoldable pub added : List ℕ → List ℕ → List ℕ
+added l [] = l
+added l (f ∷ b) = added (more f l) b
+
+-- only absent ones are added, once each
+unfoldable pub addedOnce : List ℕ → List ℕ → List ℕ
+addedOnce l [] = l
+addedOnce l (f ∷ b) = addedOnce (choose (decLe 1 (copies f l)) l (more f l)) b
+
+-- equal fingerprint widths: with duplicates, multiplicities add; without, each fingerprint held by either is held once
+unfoldable pub joined : ℕ → List ℕ → List ℕ → List ℕ
+joined zero a b = addedOnce (addedOnce [] a) b
+joined (suc keep) a b = added a b
+
+-- other wider: its fingerprints are cut to self's width q + r; with duplicates all are added, without only absent ones, once each
+unfoldable pub taken : ℕ → ℕ → ℕ → List ℕ → List ℕ → List ℕ
+taken zero q r a b = addedOnce a (map (fingerprint q r) b)
+taken (suc keep) q r a b = added a (map (fingerprint q r) b)
+
+-- growth, 7: max_qbits is none (0) or at most qbits
+unfoldable pub growthDue : ℕ → ℕ → ℕ
+growthDue q mx = choose (decLe mx q) 7 0
+
+-- 8: other's qbits + rbits smaller
+unfoldable pub narrowDue : ℕ → ℕ → ℕ
+narrowDue width other = choose (decLt other width) 8 0
+
+-- equal widths: what needs capacity is the result and, with duplicates, the sum of lens, without, the larger len
+unfoldable pub wanted : ℕ → List ℕ → List ℕ → ℕ
+wanted zero a b = max (length (joined zero a b)) (max (length a) (length b))
+wanted (suc keep) a b = max (length (joined (suc keep) a b)) (length a + length b)
+
+-- the largest qbits allowed: max_qbits, or self's qbits if none
+unfoldable pub limit : ℕ → ℕ → ℕ
+limit q mx = choose (ℕ-discrete mx 0) q mx
+
+-- the smallest qbits that is at least self's and has the capacity, and one past the limit if none up to it has
+unfoldable pub joinedQbits : ℕ → ℕ → ℕ → ℕ
+joinedQbits q mx c = widthFrom (suc (limit q mx - q)) q c
+
+-- 7: it passes the limit
+unfoldable pub joinedDue : ℕ → ℕ → ℕ → ℕ
+joinedDue q mx c = choose (decLt (limit q mx) (joinedQbits q mx c)) 7 0
+
+-- other wider, 7: an added copy would pass capacity
+unfoldable pub takenDue : ℕ → List ℕ → List ℕ → ℕ
+takenDue q a l = choose (decLt (length a) (length l)) (choose (decLt (capacity q) (length l)) 7 0) 0

@@ -1,0 +1,16 @@
+pub mod Examples
+pub mod Holding
+pub mod Image
+pub mod Joining
+pub mod Listing
+pub mod Planning
+pub mod Refusal
+pub mod Shape
+pub mod Sound
+pub mod carry
+pub mod check
+pub mod layout
+pub mod list
+pub mod number
+pub mod plan
+pub mod tools

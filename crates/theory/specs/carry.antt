@@ -1,0 +1,3 @@
+pub mod Carry
+pub mod More
+pub mod Walk

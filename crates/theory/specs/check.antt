@@ -1,0 +1,15 @@
+pub mod Accepts
+pub mod Agree
+pub mod Buffer
+pub mod Complete
+pub mod Decides
+pub mod Decode
+pub mod Examples
+pub mod Local
+pub mod Loops
+pub mod Promises
+pub mod Queue
+pub mod Reading
+pub mod Refusals
+pub mod Rounds
+pub mod Step

@@ -1,0 +1,12 @@
+pub mod Adding
+pub mod Copies
+pub mod Fewer
+pub mod Flat
+pub mod Joined
+pub mod Last
+pub mod More
+pub mod Runs
+pub mod Scan
+pub mod Seek
+pub mod Spot
+pub mod Stream

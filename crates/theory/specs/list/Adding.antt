@@ -1,0 +1,117 @@
+-- All of a list added to a holding, or only absent ones, once each: multiplicities, order, bounds and lengths. Assumes nothing.
+use Prim.Native.Nat.{ℕ, zero, suc, _+_, _≤_, _<_, min, max}
+use mathlib.Core.Path.{_≡_, refl, sym, ap, _∙_}
+use mathlib.Core.Logic.{_≢_}
+use mathlib.Core.List.{List, [], _∷_}
+use native.Mathlib.Omega.{arith}
+use native.Mathlib.Decide.{decLe, ℕ-discrete}
+use lib.ListN.{length}
+use Rattle.theory.specs.tools.Choose.{choose, choose-by}
+use Rattle.theory.specs.Holding.{more, Ascending, copies, Least, Under}
+use Rattle.theory.specs.list.Copies.{copies-eq, copies-here, copies-nil, copies-more-here, copies-more-other, copies-other}
+use Rattle.theory.specs.list.More.{more-ascending, more-under, more-least, more-length}
+use Rattle.theory.specs.Joining.{added, addedOnce, joined}
+
+-- one copy more if absent
+abbrev pub one : ℕ → List ℕ → List ℕ
+one f l = choose (decLe 1 (copies f l)) l (more f l)
+
+copies-more : (g f : ℕ) (a b : List ℕ) → copies g (more f a) + copies g b ≡ copies g a + copies g (f ∷ b)
+copies-more g f a b = go (ℕ-discrete f g)
+  where
+    go : Dec (f ≡ g) → copies g (more f a) + copies g b ≡ copies g a + copies g (f ∷ b)
+    go (yes e) = rw e (omega (arith, copies-more-here g a, copies-here g b))
+    go (no e) = omega (arith, copies-more-other f g a e, copies-other g f b e)
+
+-- ---- multiplicities
+pub copies-added : (g : ℕ) (a b : List ℕ) → copies g (added a b) ≡ copies g a + copies g b
+unfolding added
+copies-added g a [] = omega (arith, copies-nil g)
+copies-added g a (f ∷ b) = copies-added g (more f a) b ∙ copies-more g f a b
+
+copies-one : (g f : ℕ) (a b : List ℕ) → max (copies g (one f a)) (min 1 (copies g b)) ≡ max (copies g a) (min 1 (copies g (f ∷ b)))
+copies-one g f a b = go (ℕ-discrete f g)
+  where
+    here : f ≡ g → max (copies g (one f a)) (min 1 (copies g b)) ≡ max (copies g a) (min 1 (copies g (f ∷ b)))
+    here e =
+        choose-by (λ z. max (copies g z) (min 1 (copies g b)) ≡ max (copies g a) (min 1 (copies g (f ∷ b)))) (decLe 1 (copies f a))
+        (λ h. omega (arith, copies-eq g f b e, ap (λ z. copies z a) e))
+        (λ h. rw e (omega (arith, copies-more-here g a, copies-here g b, ap (λ z. copies z a) e)))
+
+    other : f ≢ g → max (copies g (one f a)) (min 1 (copies g b)) ≡ max (copies g a) (min 1 (copies g (f ∷ b)))
+    other e =
+        choose-by (λ z. max (copies g z) (min 1 (copies g b)) ≡ max (copies g a) (min 1 (copies g (f ∷ b)))) (decLe 1 (copies f a))
+        (λ h. omega (arith, copies-other g f b e))
+        (λ h. omega (arith, copies-more-other f g a e, copies-other g f b e))
+
+    go : Dec (f ≡ g) → max (copies g (one f a)) (min 1 (copies g b)) ≡ max (copies g a) (min 1 (copies g (f ∷ b)))
+    go (yes e) = here e
+    go (no e) = other e
+
+pub copies-once : (g : ℕ) (a b : List ℕ) → copies g (addedOnce a b) ≡ max (copies g a) (min 1 (copies g b))
+unfolding addedOnce
+copies-once g a [] = omega (arith, copies-nil g)
+copies-once g a (f ∷ b) = copies-once g (one f a) b ∙ copies-one g f a b
+
+-- ---- what holds of lists and stays with one copy more stays with all
+module _ (P : List ℕ → Type 0) (Q : List ℕ → Type 0) (tail : (f : ℕ) (b : List ℕ) → Q (f ∷ b) → Q b) (step : (f : ℕ) (a b : List ℕ) → Q (f ∷ b) → P a → P (more f a)) where
+  pub added-keeps : (a b : List ℕ) → Q b → P a → P (added a b)
+  unfolding added
+  added-keeps a [] q p = p
+  added-keeps a (f ∷ b) q p = added-keeps (more f a) b (tail f b q) (step f a b q p)
+
+  pub once-keeps : (a b : List ℕ) → Q b → P a → P (addedOnce a b)
+  unfolding addedOnce
+  once-keeps a [] q p = p
+  once-keeps a (f ∷ b) q p = once-keeps (one f a) b (tail f b q) (choose-by P (decLe 1 (copies f a)) (λ _. p) (λ _. step f a b q p))
+
+-- ---- lengths
+pub added-length : (a b : List ℕ) → length (added a b) ≡ length a + length b
+unfolding added
+added-length a [] = omega arith
+added-length a (f ∷ b) = omega (arith, added-length (more f a) b, more-length f a)
+
+pub once-length : (a b : List ℕ) → (length a ≤ length (addedOnce a b)) × (length (addedOnce a b) ≤ length a + length b)
+unfolding addedOnce
+once-length a [] = (omega arith, omega arith)
+once-length a (f ∷ b) =
+    let ih = once-length (one f a) b in
+    let d : (length a ≤ length (one f a)) × (length (one f a) ≤ suc (length a)) =
+    choose-by (λ (z : List ℕ). (length a ≤ length z) × (length z ≤ suc (length a))) (decLe 1 (copies f a)) (λ _. (omega arith, omega arith)) (λ _. (omega (arith, more-length f a), omega (arith, more-length f a))) in
+    (omega arith, omega arith)
+
+-- ---- both kinds of merge at equal widths
+Any : List ℕ → Type 0
+Any b = Unit {0}
+
+module _ (P : List ℕ → Type 0) (Q : List ℕ → Type 0) (none : P []) (tail : (f : ℕ) (b : List ℕ) → Q (f ∷ b) → Q b) (step : (f : ℕ) (a b : List ℕ) → Q (f ∷ b) → P a → P (more f a)) where
+  pub joined-keeps : (keep : ℕ) (a b : List ℕ) → Q a → P a → Q b → P (joined keep a b)
+  unfolding joined
+  joined-keeps zero a b qa pa qb = once-keeps P Q tail step (addedOnce [] a) b qb (once-keeps P Q tail step [] a qa none)
+  joined-keeps (suc keep) a b qa pa qb = added-keeps P Q tail step a b qb pa
+
+pub joined-ascending : (keep : ℕ) (a b : List ℕ) → Ascending a → Ascending (joined keep a b)
+unfolding Ascending Any
+joined-ascending keep a b h = joined-keeps Ascending Any tt (λ f b q. tt) (λ f a b q p. more-ascending f a p) keep a b tt h tt
+
+pub joined-under : (n keep : ℕ) (a b : List ℕ) → Under n a → Under n b → Under n (joined keep a b)
+unfolding Under
+joined-under n keep a b ha hb = joined-keeps (Under n) (Under n) tt (λ f b q. q .1) (λ f a b q p. more-under n f a (q .0) p) keep a b ha ha hb
+
+pub joined-least : (n keep : ℕ) (a b : List ℕ) → Least n a → Least n b → Least n (joined keep a b)
+unfolding Least
+joined-least n keep a b ha hb = joined-keeps (Least n) (Least n) tt (λ f b q. q .1) (λ f a b q p. more-least n f a (q .0) p) keep a b ha ha hb
+
+pub joined-length : (keep : ℕ) (a b : List ℕ) → length (joined keep a b) ≤ length a + length b
+unfolding joined
+joined-length zero a b = omega (arith, once-length (addedOnce [] a) b .1, once-length [] a .1)
+joined-length (suc keep) a b = omega (arith, added-length a b)
+
+-- with duplicates, multiplicities add; without, each fingerprint held by either is held once
+pub copies-kept : (keep g : ℕ) (a b : List ℕ) → copies g (joined (suc keep) a b) ≡ copies g a + copies g b
+unfolding joined
+copies-kept keep g a b = copies-added g a b
+
+pub copies-single : (g : ℕ) (a b : List ℕ) → copies g (joined zero a b) ≡ min 1 (copies g a + copies g b)
+unfolding joined
+copies-single g a b = omega (arith, copies-once g (addedOnce [] a) b, copies-once g [] a, copies-nil g)

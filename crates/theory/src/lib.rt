@@ -1,0 +1,1 @@
+// Definitions and laws alone: everything is in specs/.
