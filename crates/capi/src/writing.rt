@@ -2,8 +2,8 @@
 ghost use mathlib.Core.Path.{_≡_};
 ghost use Rattle.capi.specs.Writing.{insertedOf, InsertOutcome, InsertQuickOutcome};
 use crate::planning::Changed;
-use filter::numbers::Numbers;
 use filter::writers::Inserted;
+use layout::numbers::Numbers;
 
 fn as_inserted(inserted: Inserted, n: Numbers) -> Changed
     ensures { λ r. ⌜ r ≡ insertedOf n inserted ⌝ }
