@@ -1,1 +1,2 @@
 // Growth, merge and insert with a spare, over the filter's promises.
+pub mod take;
