@@ -1,1 +1,4 @@
 // Growth, merge and insert with a spare, over the filter's promises.
+pub mod adding;
+pub mod union;
+pub mod wider;

@@ -1,0 +1,4 @@
+pub mod Adding
+pub mod Firsts
+pub mod Union
+pub mod Wider
