@@ -1,2 +1,6 @@
+pub mod Adding
+pub mod Firsts
 pub mod Rebuilding
 pub mod Take
+pub mod Union
+pub mod Wider

@@ -1,3 +1,6 @@
 // Growth, merge and insert with a spare, over the filter's promises.
+pub mod adding;
 pub mod rebuild;
 pub mod take;
+pub mod union;
+pub mod wider;
