@@ -38,6 +38,7 @@ pub record TakesIn (h : Shape) (s : List ℕ) (count : ℕ) (h′ : Shape) (d : 
       → (length l < length (takenIn h′ most l b) → length (takenIn h′ most l b) ≤ capacity (h′ .qbits))
       → Shows h′ t (takenIn h′ most l b) × (a ≡ length (takenIn h′ most l b))
   pub tail : SameTail h′ d t
+  pub high : a ≤ len + count
 
 -- ---- one insert
 abbrev pub heldAfter : ℕ → Insertion → ℕ
@@ -136,6 +137,7 @@ module _ (h : Shape) (s : List ℕ) (count : ℕ) (h′ : Shape) (d₀ : List �
         let same : g .l ≡ takenIn h′ most l b = ap (takenIn h′ most (g .l)) (sym none) ∙ g .rest in
         (subst (Shows h′ d) same (g .shows), g .many ∙ ap length same);
     tail = a .tail;
+    high = omega (arith, a .high);
   }
 
   module _ (left held : ℕ) (p : Place) (d : List ℕ) (st : Stepped) (goes : Steps h s p st) (held′ : ℕ) (t : List ℕ) (puts : PutsStep h′ held (st .step) most d held′ t) where
