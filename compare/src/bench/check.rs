@@ -13,6 +13,12 @@ pub fn rows(table: &mut Table) {
     row(table, shape(20, 8), percent(shape(20, 8), 90));
 }
 
+pub fn by_width(table: &mut Table) {
+    for shape in super::widths() {
+        row(table, shape, percent(shape, 90));
+    }
+}
+
 fn row(table: &mut Table, shape: Shape, len: u64) {
     let Shape { qbits, rbits } = shape;
     let name = format!("check {qbits}/{rbits}, {len} held, a slot, to the crate's listing");

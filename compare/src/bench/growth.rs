@@ -19,6 +19,15 @@ pub fn rows(table: &mut Table) {
     }
 }
 
+pub fn by_width(table: &mut Table) {
+    for shape in super::widths() {
+        grow(table, shape);
+    }
+    for shape in super::widths() {
+        merge(table, shape, true);
+    }
+}
+
 fn grow(table: &mut Table, shape: Shape) {
     let Shape { qbits, rbits } = shape;
     let name = format!("growth {qbits}/{rbits} at capacity, a fingerprint");

@@ -14,6 +14,12 @@ pub fn rows(table: &mut Table) {
     }
 }
 
+pub fn by_width(table: &mut Table) {
+    for shape in super::widths() {
+        row(table, shape, false);
+    }
+}
+
 fn row(table: &mut Table, shape: Shape, begins: bool) {
     let Shape { qbits, rbits } = shape;
     let words = if begins { "the checked beginning and all steps" } else { "all steps" };

@@ -28,9 +28,15 @@ pub fn rows(table: &mut Table) {
         row(table, call, shape(13, 8), 7000, (Windows(32), Half), "clustered in 32 windows of 64");
         row(table, call, shape(13, 8), 7000, (Windows(8), Half), "offsets saturated, 8 windows");
     }
-    for qbits in 10..=22 {
-        let shape = shape(qbits, 8);
-        row(table, Call::Lookup, shape, percent(shape, 90), (Uniform, Half), "90 %, by width");
+}
+
+pub fn by_width(table: &mut Table) {
+    let asked = (Spread::Uniform, Asked::Half);
+    for shape in (10..=22).map(|qbits| shape(qbits, 8)) {
+        row(table, Call::Lookup, shape, percent(shape, 90), asked, "half present");
+    }
+    for shape in super::widths() {
+        row(table, Call::Count, shape, percent(shape, 90), asked, "half present");
     }
 }
 

@@ -22,24 +22,51 @@ mod lookup;
 #[cfg(feature = "proved-remove")]
 mod remove;
 
+use crate::model::Shape;
 use table::Table;
+
+/// The shapes that show how a call grows with the filter.
+fn widths() -> impl Iterator<Item = Shape> {
+    [10, 14, 18, 22].into_iter().map(|qbits| Shape { qbits, rbits: 8 })
+}
 
 /// The rows of every part in this build, or those whose name begins with `only`.
 pub fn run(seed: u64, only: Option<&str>) {
     let mut table = Table::new(seed, only);
-    #[cfg(feature = "proved-foundation")]
-    foundation::rows(&mut table);
-    #[cfg(feature = "proved-check")]
-    check::rows(&mut table);
-    #[cfg(feature = "proved-lookup")]
-    lookup::rows(&mut table);
-    #[cfg(feature = "proved-list")]
-    list::rows(&mut table);
-    #[cfg(feature = "proved-insert")]
-    insert::rows(&mut table);
-    #[cfg(feature = "proved-remove")]
-    remove::rows(&mut table);
-    #[cfg(feature = "proved-growth")]
-    growth::rows(&mut table);
+    rows(&mut table);
+    table.begin("by width: ");
+    by_width(&mut table);
     table.finish();
+}
+
+fn rows(table: &mut Table) {
+    #[cfg(feature = "proved-foundation")]
+    foundation::rows(table);
+    #[cfg(feature = "proved-check")]
+    check::rows(table);
+    #[cfg(feature = "proved-lookup")]
+    lookup::rows(table);
+    #[cfg(feature = "proved-list")]
+    list::rows(table);
+    #[cfg(feature = "proved-insert")]
+    writing::rows::<insert::Insert>(table);
+    #[cfg(feature = "proved-remove")]
+    writing::rows::<remove::Remove>(table);
+    #[cfg(feature = "proved-growth")]
+    growth::rows(table);
+}
+
+fn by_width(table: &mut Table) {
+    #[cfg(feature = "proved-check")]
+    check::by_width(table);
+    #[cfg(feature = "proved-lookup")]
+    lookup::by_width(table);
+    #[cfg(feature = "proved-list")]
+    list::by_width(table);
+    #[cfg(feature = "proved-insert")]
+    writing::by_width::<insert::Insert>(table);
+    #[cfg(feature = "proved-remove")]
+    writing::by_width::<remove::Remove>(table);
+    #[cfg(feature = "proved-growth")]
+    growth::by_width(table);
 }

@@ -8,6 +8,8 @@ const ROUNDS: usize = 11;
 pub struct Table {
     seed: u64,
     only: Option<String>,
+    /// Stands before the names of rows.
+    family: &'static str,
     rows: u64,
 }
 
@@ -25,11 +27,17 @@ impl Table {
     pub fn new(seed: u64, only: Option<&str>) -> Table {
         println!("| part | row | crate ns | proved ns | ratio | middle half |");
         println!("|---|---|---|---|---|---|");
-        Table { seed, only: only.map(str::to_owned), rows: 0 }
+        Table { seed, only: only.map(str::to_owned), family: "", rows: 0 }
+    }
+
+    /// The rows from now on belong together.
+    pub fn begin(&mut self, family: &'static str) {
+        self.family = family;
     }
 
     /// Whether the row was asked for; its inputs need not be made otherwise.
     pub fn wants(&self, name: &str) -> bool {
+        let name = format!("{}{name}", self.family);
         self.only.as_deref().is_none_or(|only| name.starts_with(only))
     }
 
@@ -72,9 +80,8 @@ impl Table {
         }
         let [low, ratio, high] = quartiles(&mut ratios);
         let (theirs, ours) = (quartiles(&mut theirs)[1], quartiles(&mut ours)[1]);
-        println!(
-            "| {part} | {name} | {theirs:.1} | {ours:.1} | {ratio:.2} | {low:.2} to {high:.2} |"
-        );
+        let row = format!("| {part} | {}{name} | {theirs:.1} | {ours:.1}", self.family);
+        println!("{row} | {ratio:.2} | {low:.2} to {high:.2} |");
         self.rows += 1;
     }
 

@@ -7,6 +7,7 @@ use super::table::{Batch, Table, Work};
 use crate::model::{Filter, Numbers, Shape};
 use crate::original::numbers_of;
 use crate::seed::Rng;
+use std::cell::RefCell;
 
 /// A batch is at least so many calls, over several copies of a small filter.
 const CALLS: u64 = 2000;
@@ -32,40 +33,57 @@ impl Copies {
     }
 }
 
-/// The holding that a row starts from, and the hashes of its batch.
-pub type Start = fn(&mut Rng, Shape, u64, u64) -> (Filter, Vec<u64>);
+/// Insert or remove, as each side does it.
+pub trait Writer {
+    const PART: &'static str;
 
-/// The rows of one writer at all loads; each side answers with a number.
-pub fn rows(
-    table: &mut Table,
-    part: &str,
-    start: Start,
-    original: impl Fn(&mut qfilter::Filter, u64) -> u64,
-    proved: impl Fn(&mut [u8], &mut Numbers, u64) -> u64,
-) {
+    /// The holding that a batch starts from, and its hashes.
+    fn start(rng: &mut Rng, shape: Shape, load: u64, calls: u64) -> (Filter, Vec<u64>);
+
+    /// Writes one hash and answers.
+    fn original(filter: &mut qfilter::Filter, hash: u64) -> u64;
+
+    /// Writes one hash, answers, and keeps the record.
+    fn proved(buffer: &mut [u8], n: &mut Numbers, hash: u64) -> u64;
+}
+
+pub fn rows<W: Writer>(table: &mut Table) {
     for shape in [shape(13, 8), shape(20, 8)] {
         for load in [50, 90, 95] {
-            let Shape { qbits, rbits } = shape;
-            let name = format!("{part} {qbits}/{rbits} at {load} %");
-            if !table.wants(&name) {
-                continue;
-            }
-            let (calls, len) = (percent(shape, 1), percent(shape, load));
-            let (filter, hashes) = start(&mut table.rng(&name), shape, len, calls);
-            let number = CALLS.div_ceil(calls);
-            let copies = std::cell::RefCell::new(Copies::new(&filter, number));
-            let work = Work { batches: 4, operations: 4 * number * calls };
-            let original = |filter: &mut qfilter::Filter| {
-                hashes.iter().map(|&hash| original(filter, hash)).sum()
-            };
-            let proved = |filter: &mut qfilter::Filter| {
-                let mut n = numbers_of(filter);
-                let buffer = filter.buffer_mut();
-                hashes.iter().map(|&hash| proved(buffer, &mut n, hash)).sum()
-            };
-            let theirs = |_| copies.borrow_mut().batch(original);
-            let ours = |_| copies.borrow_mut().batch(proved);
-            table.row(part, &name, work, theirs, ours);
+            row::<W>(table, shape, load);
         }
     }
+}
+
+pub fn by_width<W: Writer>(table: &mut Table) {
+    for shape in super::widths() {
+        row::<W>(table, shape, 90);
+    }
+}
+
+fn row<W: Writer>(table: &mut Table, shape: Shape, load: u64) {
+    let Shape { qbits, rbits } = shape;
+    let name = format!("{} {qbits}/{rbits} at {load} %", W::PART);
+    if !table.wants(&name) {
+        return;
+    }
+    let calls = percent(shape, 1);
+    let (filter, hashes) = W::start(&mut table.rng(&name), shape, percent(shape, load), calls);
+    let number = CALLS.div_ceil(calls);
+    let copies = RefCell::new(Copies::new(&filter, number));
+    let work = Work { batches: 4, operations: 4 * number * calls };
+    let original =
+        |filter: &mut qfilter::Filter| hashes.iter().map(|&hash| W::original(filter, hash)).sum();
+    let proved = |filter: &mut qfilter::Filter| {
+        let mut n = numbers_of(filter);
+        let buffer = filter.buffer_mut();
+        hashes.iter().map(|&hash| W::proved(buffer, &mut n, hash)).sum()
+    };
+    table.row(
+        W::PART,
+        &name,
+        work,
+        |_| copies.borrow_mut().batch(original),
+        |_| copies.borrow_mut().batch(proved),
+    );
 }
