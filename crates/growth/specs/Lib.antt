@@ -1,4 +1,4 @@
 pub mod Adding
-pub mod Firsts
+pub mod Counting
 pub mod Union
 pub mod Wider
