@@ -4,7 +4,6 @@ use mathlib.Core.Path.{_≡_, refl, sym, ap, _∙_}
 use mathlib.Core.List.{List, [], _∷_, map}
 use native.Mathlib.Omega.{arith}
 use native.Mathlib.Decide.{decLe, decLt}
-use native.Mathlib.Nat.{mod-eq-of-lt}
 use lib.Pow.{pow-pos, pow-mono, pow-add}
 use lib.ListN.{length, getD, take, length-map}
 use Rattle.theory.specs.tools.Choose.{choose-by}
@@ -12,7 +11,9 @@ use Rattle.theory.specs.Shape.{slots, fingerprint}
 use Rattle.theory.specs.Holding.{copies, run}
 use Rattle.theory.specs.list.Copies.{copies-nil}
 use Rattle.theory.specs.list.Seek.{copies-run}
-use Rattle.theory.specs.list.Firsts.{copies-taken, first-new, getD-map, map-same}
+use Rattle.theory.specs.list.Firsts.{copies-taken, first-new, getD-map}
+use Rattle.theory.specs.list.Flat.{under-mono}
+use Rattle.theory.specs.list.UpTo.{cut-same}
 use Rattle.theory.specs.Joining.{addedOnce}
 use Rattle.layout.specs.declared.shape.Shape.{Shape}
 use Rattle.filter.specs.declared.lookup.Seen.{Seen}
@@ -76,10 +77,10 @@ lacks-seen h s hash a p l w =
 -- ---- new: not the one before, not held by a, and not met
 -- nothing is cut off a fingerprint that is no wider
 pub cuts-same : (ha hb : Shape) (sb l : List ℕ) → hb .qbits + hb .rbits ≤ ha .qbits + ha .rbits → Shows hb sb l → cuts ha l ≡ l
-unfolding fingerprint slots
+unfolding slots
 cuts-same ha hb sb l few w =
-    map-same (2 ^ hb .qbits * 2 ^ hb .rbits) _ l
-    (λ f b. mod-eq-of-lt (omega (arith, pow-add 2 (hb .qbits) (hb .rbits), pow-mono {i = hb .qbits + hb .rbits} {j = ha .qbits + ha .rbits} few))) (w .holding .under)
+    cut-same (ha .qbits) (ha .rbits) l
+    (under-mono (2 ^ hb .qbits * 2 ^ hb .rbits) (2 ^ (ha .qbits + ha .rbits)) l (omega (arith, pow-add 2 (hb .qbits) (hb .rbits), pow-mono {i = hb .qbits + hb .rbits} {j = ha .qbits + ha .rbits} few)) (w .holding .under))
 
 module _ (ha : Shape) (sa : List ℕ) (na : ℕ) (hb : Shape) (sb : List ℕ) (nb k before f : ℕ) where
   cut-at : (l : List ℕ) (j g : ℕ) → j < length l → g ≡ getD l j 0 → getD (cuts ha l) j 0 ≡ cutOf ha g
