@@ -1,5 +1,5 @@
 pub mod Adding
-pub mod Firsts
+pub mod Counting
 pub mod Merging
 pub mod Rebuilding
 pub mod Take

@@ -1,17 +1,16 @@
 -- The length of a merge without duplicates at equal widths.
-use Prim.Native.Nat.{ℕ, _+_, _-_, _≤_, _<_, min}
+use Prim.Native.Nat.{ℕ, _+_, _-_, _≤_, min}
 use mathlib.Core.Path.{_≡_, refl, sym}
 use mathlib.Core.List.{List, []}
 use native.Mathlib.Omega.{arith}
 use lib.ListN.{length}
-use Rattle.theory.specs.Holding.{copies}
 use Rattle.theory.specs.list.Copies.{copies-nil}
 use Rattle.theory.specs.list.Adding.{copies-once, once-length}
 use Rattle.theory.specs.Joining.{joined, addedOnce}
 use Rattle.layout.specs.declared.shape.Shape.{Shape}
 use Rattle.filter.specs.Lookup.{Shows}
-use Rattle.growth.specs.Firsts.{once-alike}
-use Rattle.growth.specs.Adding.{Adds, cuts, cuts-same, held-shown}
+use Rattle.theory.specs.list.Firsts.{once-alike}
+use Rattle.growth.specs.Adding.{Adds, cuts-same, held-shown}
 
 pub record United (ha : Shape) (sa : List ℕ) (na : ℕ) (hb : Shape) (sb : List ℕ) (nb r : ℕ) : Type 0 where
   pub bound : r ≤ na + nb

@@ -1,6 +1,5 @@
 // How many fingerprints a merge without duplicates adds: those that self does not hold, once each.
 ghost use mathlib.Core.Path.{_≡_};
-ghost use Prim.Native.Nat.{ℕ, _+_, _<_, _≤_};
 ghost use lib.ListN.{length};
 ghost use Rattle.theory.specs.Shape.{fingerprint, Widths};
 ghost use Rattle.layout.specs.Whole.{Whole};

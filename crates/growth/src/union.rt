@@ -1,6 +1,5 @@
 // The length of a merge without duplicates at equal widths.
-ghost use mathlib.Core.Path.{_≡_};
-ghost use Prim.Native.Nat.{ℕ, _+_, _<_, _≤_};
+ghost use Prim.Native.Nat.{_+_, _<_, _≤_};
 ghost use lib.ListN.{length};
 ghost use Rattle.theory.specs.Shape.{slots};
 ghost use Rattle.layout.specs.Whole.{Whole};

@@ -1,17 +1,15 @@
 // Number 7 of a merge whose other side is wider.
-ghost use mathlib.Core.Path.{_≡_};
-ghost use Prim.Native.Nat.{ℕ, _+_, _<_, _≤_};
 ghost use lib.ListN.{length};
-ghost use Rattle.theory.specs.Shape.{slots, capacity, Widths};
+ghost use Rattle.theory.specs.Shape.{Widths};
 ghost use Rattle.layout.specs.Whole.{Whole};
-ghost use Rattle.growth.specs.Wider.{Passing, WiderDue};
+ghost use Rattle.growth.specs.Wider.{Excess, WiderDue};
 use crate::adding::count_added;
 use layout::shape::Shape;
 
-// How many added copies are the first to pass capacity: one, if a is past it already.
-fn passing(shape: Shape, len: u64) -> u64
+// The least number of added copies that passes capacity: one, if the filter is past it already.
+fn excess(shape: Shape, len: u64) -> u64
     requires { ⌜ Widths (shape .qbits) (shape .rbits) ⌝ }
-    ensures { λ r. ⌜ Passing shape len r ⌝ }
+    ensures { λ r. ⌜ Excess shape len r ⌝ }
 {
     let capacity = shape.capacity();
     if capacity < len {
@@ -34,7 +32,7 @@ pub fn wider_due(
     requires { ⌜ (Whole «a_shape» (length (now a))) × (Whole «b_shape» (length (now b))) ⌝ }
     ensures { λ r. ⌜ WiderDue «a_shape» (now (a .entry)) «a_len» «b_shape» (now (b .entry)) «b_len» keep r ⌝ }
 {
-    let enough = passing(a_shape, a_len);
+    let enough = excess(a_shape, a_len);
     if b_len < enough {
         return 0;
     }

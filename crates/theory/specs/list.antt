@@ -1,6 +1,7 @@
 pub mod Adding
 pub mod Copies
 pub mod Fewer
+pub mod Firsts
 pub mod Flat
 pub mod Joined
 pub mod Last

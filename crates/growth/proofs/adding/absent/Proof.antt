@@ -2,7 +2,7 @@
 use mathlib.Core.Path.{subst}
 use denote.Ref.{now}
 use Rattle.filter.specs.Lookup.{Seeks}
-use Rattle.growth.specs.Adding.{lacks-at, lacks-absent}
+use Rattle.growth.specs.Adding.{lacks-seen}
 use borrow.Author.Needs.{needs}
 use Rattle.growth.proofs.adding.absent.Statement.{statement}
 use Rattle.growth.proofs.adding.absent.Tie as tie
@@ -19,12 +19,12 @@ enum-known-seen-2 c = search needs
 returns : tie.Need-returns
 returns c =
     let a = c .before .before .before .before .before .args in
-    lacks-at (a .shape) (now (a .buf)) (a .hash) _ (subst (Seeks _ _ _) (c .before .seen .given .1) (c .before .before .before .look .ensures))
+    lacks-seen (a .shape) (now (a .buf)) (a .hash) _ (subst (Seeks _ _ _) (c .before .seen .given .1) (c .before .before .before .look .ensures))
 
 returns-2 : tie.Need-returns-2
 returns-2 c =
     let a = c .before .before .before .before .before .args in
-    lacks-absent (a .shape) (now (a .buf)) (a .hash) _ (subst (Seeks _ _ _) (c .before .seen2 .given .1) (c .before .before .before .look .ensures))
+    lacks-seen (a .shape) (now (a .buf)) (a .hash) _ (subst (Seeks _ _ _) (c .before .seen2 .given .1) (c .before .before .before .look .ensures))
 
 pub absent-spec : {M : Type 1} → statement M
 absent-spec =

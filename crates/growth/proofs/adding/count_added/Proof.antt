@@ -1,14 +1,9 @@
--- `growth::adding::count_added`: the invariant is that k fingerprints of b are passed, and count of them added (specs/Adding). Assumes nothing.
+-- `growth::adding::count_added`: the invariant is that k fingerprints of b are passed, and count of them added (specs/Counting). Assumes nothing.
 use Prim.Native.Nat.{_-_}
-use mathlib.Core.Path.{subst}
-use mathlib.Core.Logic.{⊎-elim}
-use mathlib.Core.List.{[], _∷_}
 use native.Mathlib.Omega.{arith}
 use denote.Ref.{now}
-use denote.Enum.Declared as Declared
-use types.Run.{OneOf}
-use Rattle.filter.proofs.listing.Step as Step
-use Rattle.growth.specs.Adding.{Counting, counting-none, counting-on, adds-all, adds-enough, adds-other}
+use Rattle.growth.proofs.Told.{no-fingerprint}
+use Rattle.growth.specs.Counting.{Counting, counting-none, counting-on, adds-all, adds-enough, adds-other}
 use borrow.Author.Needs.{needs}
 use Rattle.growth.proofs.adding.count_added.Statement.{statement}
 use Rattle.growth.proofs.adding.count_added.Tie as tie
@@ -45,7 +40,7 @@ returns-2 c =
     let l = s .before .before .before in
     let a = l .before .before .before .before .args in
     adds-other (a .a-shape) (now (a .a)) (a .a-len) (a .b-shape) (now (a .b)) (a .b-len) (a .enough) (l .loop .k) (l .loop .count) (l .loop .before) (l .loop .place) (l .loop .inv) _ (omega (arith, s .before .if1 .left, l .loop .inv .within)) (s .step-core .ensures)
-    (λ g e. ⊎-elim (λ z. omega arith) (λ z. omega arith) (subst (λ z. OneOf (1 ∷ 2 ∷ []) (Declared.tagOf Step.the-type z)) e (c .match .keys2)))
+    (no-fingerprint _ (c .match .keys2))
 
 is-new-requires : tie.Need-is-new-requires Inv-loop μ-loop
 is-new-requires c κs = search needs

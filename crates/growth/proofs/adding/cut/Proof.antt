@@ -1,6 +1,6 @@
 -- `growth::adding::cut`: the quotient above the remainder, nothing shifted out. Assumes nothing.
 use Prim.Native.Nat.{_+_, _*_, _^_}
-use mathlib.Core.Path.{ap, ap₂, sym, _∙_}
+use mathlib.Core.Path.{ap, ap₂, _∙_}
 use native.Mathlib.Omega.{arith}
 use native.Mathlib.Nat.{div-add-mod'}
 use Rattle.theory.specs.Shape.{fingerprint}

@@ -1,5 +1,4 @@
 -- `growth::adding::is_new`: the one before; held; no wider, so equal ones are neighbours; or what the listing anew says (specs/Adding). Assumes nothing.
-use mathlib.Core.Path.{_≡_, _∙_}
 use mathlib.Core.Logic.{⊎-elim}
 use native.Mathlib.Omega.{arith}
 use denote.Ref.{now}

@@ -1,14 +1,9 @@
--- `growth::adding::unmet`: the invariant is that i fingerprints are passed, none of them cut to f (specs/Adding). Assumes nothing.
-use Prim.Native.Nat.{_-_, _≤_}
-use mathlib.Core.Path.{_≡_, ap, sym, subst, _∙_}
-use mathlib.Core.Logic.{⊎-elim}
-use mathlib.Core.List.{[], _∷_}
-use native.Mathlib.Omega.{arith}
+-- `growth::adding::unmet`: the invariant is that i fingerprints are passed, none of them cut to f (specs/Counting). Assumes nothing.
+use Prim.Native.Nat.{_-_}
+use mathlib.Core.Path.{sym, _∙_}
 use denote.Ref.{now}
-use denote.Enum.Declared as Declared
-use types.Run.{OneOf}
-use Rattle.filter.proofs.listing.Step as Step
-use Rattle.growth.specs.Adding.{Passing, passing-none, passing-on, unmet-other, unmet-hit, unmet-end}
+use Rattle.growth.proofs.Told.{no-fingerprint}
+use Rattle.growth.specs.Counting.{Passing, passing-none, passing-on, unmet-other, unmet-hit, unmet-end}
 use borrow.Author.Needs.{needs}
 use Rattle.growth.proofs.adding.unmet.Statement.{statement}
 use Rattle.growth.proofs.adding.unmet.Tie as tie
@@ -39,7 +34,7 @@ returns c =
     let l = s .before .before in
     let a = l .before .before .before .args in
     unmet-other (a .b-shape) (now (a .b)) (a .b-len) (a .shape) (a .k) (a .f) (l .loop .i) (l .loop .place) _ (s .before .loop-test .taken) (l .loop .inv) (s .step-core .ensures)
-    (λ g e. ⊎-elim (λ z. omega arith) (λ z. omega arith) (subst (λ z. OneOf (1 ∷ 2 ∷ []) (Declared.tagOf Step.the-type z)) e (c .match .keys2)))
+    (no-fingerprint _ (c .match .keys2))
 
 cut-requires : tie.Need-cut-requires Inv-loop μ-loop
 cut-requires c κs = search needs

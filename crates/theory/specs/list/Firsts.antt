@@ -1,19 +1,19 @@
 -- How many a merge without duplicates adds, one fingerprint after the other: the first of equal ones, if it is not held yet. Assumes nothing.
-use Prim.Native.Nat.{ℕ, zero, suc, _+_, _-_, _≤_, _<_, min, max}
-use mathlib.Core.Path.{_≡_, refl, sym, ap, ap₂, _∙_}
-use mathlib.Core.Logic.{_⊎_, inl, inr, _≢_}
+use Prim.Native.Nat.{ℕ, zero, suc, _+_, _-_, _≤_, _<_, min}
+use mathlib.Core.Path.{_≡_, refl, ap, _∙_}
+use mathlib.Core.Logic.{_≢_}
 use mathlib.Core.List.{List, [], _∷_, map}
 use native.Mathlib.Omega.{arith}
-use native.Mathlib.Decide.{decLe, decLt, ℕ-discrete}
+use native.Mathlib.Decide.{decLe, ℕ-discrete}
 use lib.ListN.{length, getD, take}
 use lib.Seq.{take-length}
 use Rattle.theory.specs.tools.Choose.{choose-by}
-use Rattle.theory.specs.Holding.{copies, more, Ascending, Least, Under}
+use Rattle.theory.specs.Holding.{copies, more, Ascending}
 use Rattle.theory.specs.list.Adding.{one, copies-once, once-length}
 use Rattle.theory.specs.list.Copies.{copies-nil, copies-eq, copies-other}
 use Rattle.theory.specs.list.More.{more-length}
-use Rattle.theory.specs.list.Runs.{least-at, ascending-at}
+use Rattle.theory.specs.list.Runs.{ascending-at}
 use Rattle.theory.specs.Joining.{addedOnce}
 
 -- ---- copies among the first k
 pub copies-taken : (f : ℕ) (l : List ℕ) (j k : ℕ) → j < k → j < length l → getD l j 0 ≡ f → 1 ≤ copies f (take k l)
@@ -91,8 +91,3 @@ pub getD-map : (g : ℕ → ℕ) (l : List ℕ) (k : ℕ) → k < length l → g
 getD-map g [] k h = absurd (omega arith)
 getD-map g (f ∷ l) zero h = refl
 getD-map g (f ∷ l) (suc k) h = getD-map g l k (omega arith)
-
-pub map-same : (b : ℕ) (g : ℕ → ℕ) (l : List ℕ) → ((f : ℕ) → f < b → g f ≡ f) → Under b l → map g l ≡ l
-unfolding Under
-map-same b g [] h u = refl
-map-same b g (f ∷ l) h u = ap₂ _∷_ (h f (u .0)) (map-same b g l h (u .1))
