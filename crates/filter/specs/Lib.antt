@@ -6,6 +6,7 @@ pub mod Lookup
 pub mod Moving
 pub mod Occupied
 pub mod Offsets
+pub mod Pinned
 pub mod Places
 pub mod Reading
 pub mod Remove

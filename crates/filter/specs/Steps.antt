@@ -1,5 +1,5 @@
--- What follows of the promises of a listing: from the first place on the steps give exactly the list held and then done, each place between is
--- that after so many steps, and the promises leave no choice. Assumes nothing.
+-- What follows of the promises of a listing: from the first place on the steps give exactly the list held and then done, and each place between is
+-- that after so many steps. Assumes nothing.
 use Prim.Native.Nat.{ℕ, zero, suc, _+_, _-_, _≤_, _<_}
 use mathlib.Core.Path.{_≡_, refl, sym, ap, ap₂, subst, _∙_}
 use mathlib.Core.Logic.{_⊎_, inl, inr}
@@ -11,21 +11,16 @@ use lib.ListN.{length, getD, take, drop, length-drop, replicate}
 use lib.Seq.{drop-cons}
 use Rattle.theory.specs.layout.Images.{image-tells}
 use Rattle.theory.specs.check.Decides.{sound-dec}
-use Rattle.theory.specs.check.Promises.{checked-one}
-use denote.Ref.{now}
 use Rattle.layout.specs.declared.numbers.Numbers.{Numbers}
 use Rattle.filter.specs.declared.listing.Place.{Place}
 use Rattle.filter.specs.declared.listing.Step.{Step}
 use Rattle.filter.specs.declared.listing.Step.the-variants.{Fingerprint, Done}
 use Rattle.filter.specs.declared.listing.Stepped.{Stepped}
-use Rattle.filter.specs.declared.listing.Begun.{Begun}
 use Rattle.filter.specs.declared.listing.Begun.the-variants as begun
-use Rattle.filter.specs.declared.reader.Reader.{Reader}
-use Rattle.filter.specs.declared.reader.Two.{Two}
 use Rattle.layout.specs.Verdicts.{lowestDue, SoundOf}
 use Rattle.filter.specs.Places.{stepped, nowhere, done, placeOf, stepOf, place-none, place-left, step-some, step-none}
-use Rattle.filter.specs.Listing.{HoldsOf, Begins, Listed, passed-whole}
-use Rattle.filter.specs.Reading.{Moved, TwoListed}
+use Rattle.layout.specs.Judging.{clear-whole}
+use Rattle.filter.specs.Listing.{HoldsOf, Begins, Listed}
 
 -- ---- the steps of a list
 module _ (q r : ℕ) (l : List ℕ) where
@@ -35,7 +30,7 @@ module _ (q r : ℕ) (l : List ℕ) where
   answers k (suc c) = stepOf q r l k .step ∷ answers (suc k) c
 
   -- each step leaves the place after it
-  step-place : (k : ℕ) → stepOf q r l k .place ≡ placeOf q r l (suc k)
+  pub step-place : (k : ℕ) → stepOf q r l k .place ≡ placeOf q r l (suc k)
   step-place k = go (decLt k (length l))
     where
       go : Dec (k < length l) → stepOf q r l k .place ≡ placeOf q r l (suc k)
@@ -119,7 +114,7 @@ module _ (n : Numbers) (s l : List ℕ) (e : lowestDue n s ≡ 0) (h : HoldsOf n
     refused = λ d. absurd (omega arith);
     stays = λ _ z. step-none (n .qbits) (n .rbits) l k (omega (arith, place-left (n .qbits) (n .rbits) l k, ap (λ (p : Place). p .remaining) z));
     right = λ _ l′ h′ k′ z.
-        let t : l′ ≡ l = image-tells (n .qbits) (n .rbits) (passed-whole n s e .widths .low) l′ l (h′ .holding) (h .holding) (sym (h′ .bytes) ∙ h .bytes) in
+        let t : l′ ≡ l = image-tells (n .qbits) (n .rbits) (clear-whole n s e .widths .low) l′ l (h′ .holding) (h .holding) (sym (h′ .bytes) ∙ h .bytes) in
         same-step (n .qbits) (n .rbits) l k k′ (z ∙ ap (λ (y : List ℕ). placeOf (n .qbits) (n .rbits) y k′) t)
         ∙ ap (λ (y : List ℕ). stepOf (n .qbits) (n .rbits) y k′) (sym t);
   }
@@ -151,58 +146,9 @@ begun-listing n s p p′ ts b c g = go (eq-zero-or-pos (lowestDue n s)) (sound-d
 
 -- done stays done, whatever the buffer is, if none of 1 to 5 is due
 pub done-stays : (n : Numbers) (s : List ℕ) → lowestDue n s ≡ 0 → (ts : List Step) (p : Place) → Goes n s nowhere ts p → (ts ≡ replicate (length ts) Done) × (p ≡ nowhere)
-unfolding Goes replicate
+unfolding Goes
 done-stays n s e [] p g = (refl, sym g)
 done-stays n s e (a ∷ ts) p g =
     let t : stepped a (g .0) ≡ done = g .1 .stays e refl in
     let i = done-stays n s e ts p (subst (λ (m : Place). Goes n s m ts p) (ap (λ (z : Stepped). z .place) t) (g .2)) in
     (ap₂ _∷_ (ap (λ (z : Stepped). z .step) t) (i .0), i .1)
-
--- ---- what the promises pin down
--- a number is due, or none remain, or the buffer is sound and the place is one of the list held
-abbrev pub Fixed : Numbers → List ℕ → Place → Type 0
-Fixed n s p = (0 < lowestDue n s) ⊎ ((p ≡ nowhere) ⊎ ((l : List ℕ) × (k : ℕ) × HoldsOf n s l × (p ≡ placeOf (n .qbits) (n .rbits) l k)))
-
-pub listed-one : (n : Numbers) (s : List ℕ) (p : Place) → Fixed n s p → (a b : Stepped) → Listed n s p a → Listed n s p b → a ≡ b
-listed-one n s p f a b x y = go f (eq-zero-or-pos (lowestDue n s))
-  where
-    go : Fixed n s p → (lowestDue n s ≡ 0) ⊎ (0 < lowestDue n s) → a ≡ b
-    go f (inr d) = x .refused d ∙ sym (y .refused d)
-    go (inl d) (inl e) = absurd (omega arith)
-    go (inr (inl z)) (inl e) = x .stays e z ∙ sym (y .stays e z)
-    go (inr (inr z)) (inl e) = x .right e (z .0) (z .2) (z .1) (z .3) ∙ sym (y .right e (z .0) (z .2) (z .1) (z .3))
-
-pub begins-one : (n : Numbers) (s : List ℕ) (a b : Begun) → Begins n s a → Begins n s b → a ≡ b
-begins-one n s =
-    checked-one (λ k a. a ≡ begun.Refused k) (λ l a. a ≡ begun.At (placeOf (n .qbits) (n .rbits) l 0)) (n .qbits) (n .rbits) (n .len) (n .«max_qbits») s
-    (λ k a b x y. x ∙ sym y) (λ l h a b x y. x ∙ sym y)
-
--- a step from a place that is pinned down leaves one that is
-fixed-next : (n : Numbers) (s : List ℕ) (p : Place) → Fixed n s p → (a : Stepped) → Listed n s p a → Fixed n s (a .place)
-fixed-next n s p f a x = go f (eq-zero-or-pos (lowestDue n s))
-  where
-    go : Fixed n s p → (lowestDue n s ≡ 0) ⊎ (0 < lowestDue n s) → Fixed n s (a .place)
-    go f (inr d) = inl d
-    go (inl d) (inl e) = inl d
-    go (inr (inl z)) (inl e) = inr (inl (ap (λ (y : Stepped). y .place) (x .stays e z)))
-    go (inr (inr z)) (inl e) =
-        inr (inr (z .0, suc (z .1), z .2, ap (λ (y : Stepped). y .place) (x .right e (z .0) (z .2) (z .1) (z .3)) ∙ step-place (n .qbits) (n .rbits) (z .0) (z .1)))
-
-pub moved-one : (r : Reader) → Fixed (r .numbers) (now (r .buf)) (r .place) → (a b : Step) (r₁ r₂ : Reader) → Moved r a r₁ → Moved r b r₂ → (a ≡ b) × (r₁ ≡ r₂)
-moved-one r f a b r₁ r₂ x y =
-    (ap (λ (z : Stepped). z .step) one, x .kept ∙ ap (λ (z : Stepped). record { buf = r .buf; numbers = r .numbers; place = z .place }) one ∙ sym (y .kept))
-  where
-    one : stepped a (r₁ .place) ≡ stepped b (r₂ .place)
-    one = listed-one (r .numbers) (now (r .buf)) (r .place) f _ _ (x .listed) (y .listed)
-
-pub two-one : (n : Numbers) (s : List ℕ) (p : Place) → Fixed n s p → (a b : Two) → TwoListed n s p a → TwoListed n s p b → a ≡ b
-two-one n s p f a b x y = λ i. record { first = one i .step; second = two i .step; place = two i .place }
-  where
-    one : stepped (a .first) (x .between) ≡ stepped (b .first) (y .between)
-    one = listed-one n s p f _ _ (x .first) (y .first)
-
-    back : y .between ≡ x .between
-    back = sym (ap (λ (z : Stepped). z .place) one)
-
-    two : stepped (a .second) (a .place) ≡ stepped (b .second) (b .place)
-    two = listed-one n s (x .between) (fixed-next n s p f _ (x .first)) _ _ (x .second) (subst (λ (m : Place). Listed n s m (stepped (b .second) (b .place))) back (y .second))
