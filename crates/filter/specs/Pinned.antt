@@ -67,7 +67,7 @@ begin-pinned n s = checked-answer begun.Refused (λ l. begun.At (placeOf (n .qbi
 alike : {A : Type 0} {a : A} {t : List ℕ} (x y : A × List ℕ) → (x .0 ≡ a) × (x .1 ≡ t) → (y .0 ≡ a) × (y .1 ≡ t) → x ≡ y
 alike x y p q = λ i. ((p .0 ∙ sym (q .0)) i, (p .1 ∙ sym (q .1)) i)
 
-apart : {A : Type 0} (x y : A × List ℕ) → x ≡ y → (x .0 ≡ y .0) × (x .1 ≡ y .1)
+pub apart : {A : Type 0} (x y : A × List ℕ) → x ≡ y → (x .0 ≡ y .0) × (x .1 ≡ y .1)
 apart x y e = (ap (λ z. z .0) e, ap (λ z. z .1) e)
 
 -- a refusal is its number alone, with the buffer as it was; what is right for the list held is one outcome
