@@ -16,4 +16,5 @@ pub mod Scan
 pub mod Shifted
 pub mod Spots
 pub mod Steps
+pub mod Traces
 pub mod Writing
