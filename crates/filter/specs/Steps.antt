@@ -7,7 +7,7 @@ use mathlib.Core.List.{List, [], _∷_, _++_, map}
 use native.Mathlib.Omega.{arith}
 use native.Mathlib.Decide.{decLt}
 use native.Mathlib.Nat.{add-zero, eq-zero-or-pos}
-use lib.ListN.{length, getD, take, drop, length-drop, replicate}
+use lib.ListN.{length, getD, take, drop, length-append, length-drop, length-map, replicate}
 use lib.Seq.{drop-cons}
 use Rattle.theory.specs.layout.Images.{image-tells}
 use Rattle.theory.specs.check.Decides.{sound-dec}
@@ -23,6 +23,13 @@ use Rattle.layout.specs.Judging.{clear-whole}
 use Rattle.filter.specs.Listing.{HoldsOf, Begins, Listed}
 
 -- ---- the steps of a list
+drop-over : (k : ℕ) (l : List ℕ) → length l ≤ k → drop k l ≡ []
+drop-over k l b = empty (drop k l) (omega (arith, length-drop k l))
+  where
+    empty : (d : List ℕ) → length d ≡ 0 → d ≡ []
+    empty [] e = refl
+    empty (f ∷ d) e = absurd (omega arith)
+
 module _ (q r : ℕ) (l : List ℕ) where
   -- the answers of c steps from step k on
   unfoldable pub answers : ℕ → ℕ → List Step
@@ -57,6 +64,22 @@ module _ (q r : ℕ) (l : List ℕ) where
   answers-part (suc c) k b =
       let d : k < length l = omega arith in
       rw (drop-cons l k 0 d) (ap₂ _∷_ (ap (λ (z : Stepped). z .step) (step-some q r l k d)) (answers-part c (suc k) (omega arith)))
+
+  -- steps that give fingerprints and then done for the first time give all from step k on
+  answers-until : (fs : List ℕ) (k : ℕ) → map Fingerprint fs ++ (Done ∷ []) ≡ answers k (length (map Fingerprint fs ++ (Done ∷ []))) → fs ≡ drop k l
+  unfolding answers
+  answers-until [] k e = go (decLt k (length l))
+    where
+      go : Dec (k < length l) → [] ≡ drop k l
+      go (yes b) = let z : _≡_ {A = ℕ} 0 1 = cc (e, ap (λ (z : Stepped). z .step) (step-some q r l k b)) in absurd (omega arith)
+      go (no b) = sym (drop-over k l (omega arith))
+  answers-until (f ∷ fs) k e = go (decLt k (length l)) (answers-until fs (suc k))
+    where
+      go : Dec (k < length l) → (map Fingerprint fs ++ (Done ∷ []) ≡ answers (suc k) (length (map Fingerprint fs ++ (Done ∷ []))) → fs ≡ drop (suc k) l) → f ∷ fs ≡ drop k l
+      go (yes b) ih =
+          let d : f ≡ getD l k 0 = cc (e, ap (λ (z : Stepped). z .step) (step-some q r l k b)) in
+          rw (drop-cons l k 0 b) (ap₂ _∷_ d (ih (cc e)))
+      go (no b) ih = let z : _≡_ {A = ℕ} 0 1 = cc (e, ap (λ (z : Stepped). z .step) (step-none q r l k (omega arith))) in absurd (omega arith)
 
   -- a place of the list tells how many steps were taken
   pub place-tells : (j k : ℕ) → j ≤ length l → k ≤ length l → placeOf q r l j ≡ placeOf q r l k → j ≡ k
@@ -108,6 +131,12 @@ module _ (n : Numbers) (s l : List ℕ) (e : lowestDue n s ≡ 0) (h : HoldsOf n
         place-after ts p g ∙ place-none (n .qbits) (n .rbits) l (length ts) (omega arith),
       )
 
+  -- steps up to the first done give exactly the list held, and so they are len + 1
+  pub until-done : (fs : List ℕ) (p : Place) → Goes n s (placeOf (n .qbits) (n .rbits) l 0) (map Fingerprint fs ++ (Done ∷ [])) p → (fs ≡ l) × (length (map Fingerprint fs ++ (Done ∷ [])) ≡ suc (n .len))
+  until-done fs p g =
+      let e = answers-until (n .qbits) (n .rbits) l fs 0 (goes-from _ 0 _ p refl g .0) in
+      (e, omega (arith, length-append (map Fingerprint fs) (Done ∷ []), length-map fs Fingerprint, ap length e, h .many))
+
   -- the promise can be kept at every place of the list, so there are such steps
   pub listed-is : (k : ℕ) → Listed n s (placeOf (n .qbits) (n .rbits) l k) (stepOf (n .qbits) (n .rbits) l k)
   listed-is k = record {
@@ -127,22 +156,34 @@ module _ (n : Numbers) (s l : List ℕ) (e : lowestDue n s ≡ 0) (h : HoldsOf n
       let i = rw j at (goes-on c (suc k)) in
       (stepOf (n .qbits) (n .rbits) l k .place, listed-is k, rw (step-place (n .qbits) (n .rbits) l k) i)
 
--- a beginning that is not refused, and len + 1 steps from its place: the buffer holds a list, and these are its fingerprints, then done
-pub begun-listing : (n : Numbers) (s : List ℕ) (p p′ : Place) (ts : List Step) → Begins n s (begun.At p) → length ts ≡ suc (n .len) → Goes n s p ts p′
-    → (l : List ℕ) × HoldsOf n s l × (ts ≡ map Fingerprint l ++ (Done ∷ [])) × (p′ ≡ nowhere)
-begun-listing n s p p′ ts b c g = go (eq-zero-or-pos (lowestDue n s)) (sound-dec (n .qbits) (n .rbits) (n .len) (n .«max_qbits») s)
+-- ---- from the beginning
+-- a beginning that is not refused: the buffer holds a list, and the place is that of its first fingerprint
+pub begun-at : (n : Numbers) (s : List ℕ) (p : Place) → Begins n s (begun.At p) → (l : List ℕ) × HoldsOf n s l × (lowestDue n s ≡ 0) × (p ≡ placeOf (n .qbits) (n .rbits) l 0)
+begun-at n s p b = go (eq-zero-or-pos (lowestDue n s)) (sound-dec (n .qbits) (n .rbits) (n .len) (n .«max_qbits») s)
   where
     never : (k : ℕ) → begun.At p ≡ begun.Refused k → ⊥
     never k e = let z : _≡_ {A = ℕ} 0 1 = cc in omega arith
 
-    go : (lowestDue n s ≡ 0) ⊎ (0 < lowestDue n s) → Dec (SoundOf n s) → (l : List ℕ) × HoldsOf n s l × (ts ≡ map Fingerprint l ++ (Done ∷ [])) × (p′ ≡ nowhere)
+    go : (lowestDue n s ≡ 0) ⊎ (0 < lowestDue n s) → Dec (SoundOf n s) → (l : List ℕ) × HoldsOf n s l × (lowestDue n s ≡ 0) × (p ≡ placeOf (n .qbits) (n .rbits) l 0)
     go (inr d) y = absurd (never _ (b .early d))
     go (inl e) (no y) = absurd (never _ (b .damaged e y))
-    go (inl e) (yes y) =
-        let f : begun.At p ≡ begun.At (placeOf (n .qbits) (n .rbits) (y .held) 0) = b .sound e (y .held) (y .holds) in
-        let at : p ≡ placeOf (n .qbits) (n .rbits) (y .held) 0 = cc in
-        let w = whole-listing n s (y .held) e (y .holds) ts p′ c (subst (λ (m : Place). Goes n s m ts p′) at g) in
-        (y .held, y .holds, w .0, w .1)
+    go (inl e) (yes y) = (y .held, y .holds, e, cc (b .sound e (y .held) (y .holds)))
+
+-- len + 1 steps from its place: the fingerprints of that list, then done
+pub begun-listing : (n : Numbers) (s : List ℕ) (p p′ : Place) (ts : List Step) → Begins n s (begun.At p) → length ts ≡ suc (n .len) → Goes n s p ts p′
+    → (l : List ℕ) × HoldsOf n s l × (ts ≡ map Fingerprint l ++ (Done ∷ [])) × (p′ ≡ nowhere)
+begun-listing n s p p′ ts b c g =
+    let y = begun-at n s p b in
+    let w = whole-listing n s (y .0) (y .2) (y .1) ts p′ c (subst (λ (m : Place). Goes n s m ts p′) (y .3) g) in
+    (y .0, y .1, w .0, w .1)
+
+-- the steps from its place up to the first done: they give exactly that list, and they are len + 1
+pub begun-until-done : (n : Numbers) (s : List ℕ) (p p′ : Place) (fs : List ℕ) → Begins n s (begun.At p) → Goes n s p (map Fingerprint fs ++ (Done ∷ [])) p′
+    → HoldsOf n s fs × (length (map Fingerprint fs ++ (Done ∷ [])) ≡ suc (n .len))
+begun-until-done n s p p′ fs b g =
+    let y = begun-at n s p b in
+    let w = until-done n s (y .0) (y .2) (y .1) fs p′ (subst (λ (m : Place). Goes n s m (map Fingerprint fs ++ (Done ∷ [])) p′) (y .3) g) in
+    (rw (w .0) (y .1), w .1)
 
 -- done stays done, whatever the buffer is, if none of 1 to 5 is due
 pub done-stays : (n : Numbers) (s : List ℕ) → lowestDue n s ≡ 0 → (ts : List Step) (p : Place) → Goes n s nowhere ts p → (ts ≡ replicate (length ts) Done) × (p ≡ nowhere)
