@@ -1,10 +1,9 @@
 -- What follows of the promises of lookup, count, insert and remove: filters that hold a fingerprint equally often answer alike, no lookup compares more than n(q) remainders,
 -- and a quick call equals the checked one on every sound buffer. Assumes nothing.
 use Prim.Native.Nat.{ℕ, _+_, _/_, _^_, _≤_, _<_}
-use mathlib.Core.Path.{_≡_, refl, sym, ap, subst, _∙_}
+use mathlib.Core.Path.{_≡_, refl, sym, ap, _∙_}
 use mathlib.Core.Bool.{Bool, true, false}
 use mathlib.Core.List.{List}
-use native.Mathlib.Omega.{arith}
 use native.Mathlib.Decide.{decLe}
 use native.Mathlib.Nat.{div-lt-iff-lt-mul, le-refl}
 use lib.ListN.{length}

@@ -1,6 +1,7 @@
 pub mod Answers
 pub mod Asking
 pub mod Insert
+pub mod Kept
 pub mod Leaving
 pub mod Listing
 pub mod Lookup

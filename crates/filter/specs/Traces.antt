@@ -1,32 +1,27 @@
 -- What follows of the promises of insert and remove: inserting and then removing one copy puts every byte and the record back, and the order of inserts leaves no trace.
 -- Said of checked calls; on a sound buffer the quick ones are equal (Answers). How offsets at 254, 255 and 256 go up and down is in the theory, layout/Saturated. Assumes nothing.
-use Prim.Native.Nat.{ℕ, suc, _+_, _-_, _^_, _≤_, _<_, max}
-use mathlib.Core.Path.{_≡_, refl, sym, ap, subst, _∙_}
+use Prim.Native.Nat.{ℕ, suc, _+_, _-_, _≤_, _<_, max}
+use mathlib.Core.Path.{_≡_, sym, ap, subst, _∙_}
 use mathlib.Core.List.{List, [], _∷_, map}
 use native.Mathlib.Omega.{arith}
 use native.Mathlib.Decide.{decLe}
 use lib.ListN.{length, length-map}
-use Rattle.theory.specs.Shape.{slots, capacity}
-use Rattle.theory.specs.Holding.{copies, more, fewer}
+use Rattle.theory.specs.Shape.{capacity}
+use Rattle.theory.specs.Holding.{copies, more}
 use Rattle.theory.specs.Image.{image}
 use Rattle.theory.specs.Joining.{added}
 use Rattle.theory.specs.list.Adding.{added-length}
 use Rattle.theory.specs.list.Copies.{copies-more-here}
-use Rattle.theory.specs.list.More.{more-length}
 use Rattle.theory.specs.list.Traces.{fewer-more, added-order}
-use Rattle.theory.specs.layout.Images.{image-length}
-use Rattle.theory.specs.layout.More.{more-holding}
-use Rattle.theory.specs.layout.Sizes.{fingerprint-lt, capacity-lt}
-use Rattle.theory.specs.check.Refusals.{none-due, clear-none}
 use Rattle.layout.specs.declared.numbers.Numbers.{Numbers}
 use Rattle.layout.specs.Verdicts.{lowestDue, SoundOf}
-use Rattle.filter.specs.declared.writers.Inserted.{Inserted}
-use Rattle.filter.specs.declared.writers.Inserted.the-variants.{Counted, Refused}
+use Rattle.filter.specs.declared.writers.Inserted.the-variants.{Counted}
 use Rattle.filter.specs.declared.writers.Removed.{Removed}
 use Rattle.filter.specs.declared.writers.Removed.the-variants.{Gone}
 use Rattle.filter.specs.Asking.{fingerprintOf}
 use Rattle.filter.specs.Writing.{Inserts, Insert, Remove, withLen}
 use Rattle.filter.specs.Listing.{HoldsOf}
+use Rattle.filter.specs.Kept.{more-clear, more-holds}
 
 -- an insert that adds a copy: it is not refused, and the record afterwards has one fingerprint more
 pub record Adds (n : Numbers) (hash : ℕ) (s : List ℕ) (n′ : Numbers) (t : List ℕ) : Type 0 where
@@ -60,31 +55,12 @@ module _ (n : Numbers) (s l : List ℕ) (e : lowestDue n s ≡ 0) (h : HoldsOf n
           let r = right .added (omega arith) (omega arith) in
           record { numbers = cc (r .0); bytes = r .1; room = omega arith }
 
-  -- it is sound and holds one copy more
-  module _ (t : List ℕ) (is : t ≡ image (n .qbits) (n .rbits) (more f l)) (room : n .len < capacity (n .qbits)) where
-    clear-after : lowestDue (withLen n (n .len + 1)) t ≡ 0
-    clear-after =
-        let d = none-due (n .qbits) (n .rbits) (n .len) (n .«max_qbits») (length s) e in
-        clear-none (n .qbits) (n .rbits) (n .len + 1) (n .«max_qbits») (length t) (record {
-          widths = d .widths;
-          size-is = ap length is ∙ image-length (n .qbits) (n .rbits) (more f l);
-          fewer = omega (arith, capacity-lt (n .qbits) (d .widths .low));
-          max-none = d .max-none;
-        })
-
-    holds-after : HoldsOf (withLen n (n .len + 1)) t (more f l)
-    holds-after = record {
-      holding = more-holding (slots (n .qbits)) (2 ^ n .rbits) f l (h .holding) (fingerprint-lt (n .qbits) (n .rbits) hash)
-          (omega (arith, h .many, capacity-lt (n .qbits) (none-due (n .qbits) (n .rbits) (n .len) (n .«max_qbits») (length s) e .widths .low)));
-      many = omega (arith, more-length f l, h .many);
-      bytes = is;
-    }
-
-    put-back : (a : Removed) (u : List ℕ) → Remove (withLen n (n .len + 1)) hash t a u → (a ≡ Gone n) × (u ≡ s)
-    put-back a u p =
-        let r = p .sound clear-after (more f l) holds-after .gone (omega (arith, copies-more-here f l)) in
-        let k : n .len + 1 - 1 ≡ n .len = omega arith in
-        (r .0 ∙ ap (λ z. Gone (withLen n z)) k, r .1 ∙ ap (image (n .qbits) (n .rbits)) (fewer-more f l (h .holding .ascending)) ∙ sym (h .bytes))
+  put-back : (t : List ℕ) → t ≡ image (n .qbits) (n .rbits) (more f l) → n .len < capacity (n .qbits)
+      → (a : Removed) (u : List ℕ) → Remove (withLen n (n .len + 1)) hash t a u → (a ≡ Gone n) × (u ≡ s)
+  put-back t is room a u p =
+      let r = p .sound (more-clear n s l e h hash t is room) (more f l) (more-holds n s l e h hash t is room) .gone (omega (arith, copies-more-here f l)) in
+      let k : n .len + 1 - 1 ≡ n .len = omega arith in
+      (r .0 ∙ ap (λ z. Gone (withLen n z)) k, r .1 ∙ ap (image (n .qbits) (n .rbits)) (fewer-more f l (h .holding .ascending)) ∙ sym (h .bytes))
 
 -- ---- inserting and then removing one copy puts every byte and the record back
 pub insert-remove : (n : Numbers) (s : List ℕ) → SoundOf n s → (hash : ℕ) (n′ : Numbers) (t : List ℕ) → Adds n hash s n′ t
@@ -107,8 +83,8 @@ grown-all [] n s l e h n′ t a =
     (sym (a .0) ∙ ap (withLen n) k, sym (a .1) ∙ h .bytes)
 grown-all (hash ∷ hashes) n s l e h n′ t a =
     let g = grown n s l e h hash (a .0) (a .1) (a .2) in
-    let i = grown-all hashes (withLen n (n .len + 1)) (a .1) (more (fingerprintOf n hash) l) (clear-after n s l e h hash (a .1) (g .bytes) (g .room))
-    (holds-after n s l e h hash (a .1) (g .bytes) (g .room)) n′ t (subst (λ (z : Numbers). AddsAll z (a .1) hashes n′ t) (g .numbers) (a .3)) in
+    let i = grown-all hashes (withLen n (n .len + 1)) (a .1) (more (fingerprintOf n hash) l) (more-clear n s l e h hash (a .1) (g .bytes) (g .room))
+    (more-holds n s l e h hash (a .1) (g .bytes) (g .room)) n′ t (subst (λ (z : Numbers). AddsAll z (a .1) hashes n′ t) (g .numbers) (a .3)) in
     let k : n .len + 1 + length hashes ≡ n .len + suc (length hashes) = omega arith in
     (i .0 ∙ ap (withLen n) k, i .1)
 

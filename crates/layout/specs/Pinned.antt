@@ -1,6 +1,6 @@
 -- What the promises of this crate's public calls pin down: of each, any two outcomes (the answer, and every lent byte where the call writes) that keep its promise coincide, for all inputs.
 -- Assumes nothing.
-use Prim.Native.Nat.{ℕ, _≤_, _<_}
+use Prim.Native.Nat.{ℕ, _≤_}
 use mathlib.Core.Path.{_≡_, refl, sym, ap, _∙_}
 use mathlib.Core.Logic.{inl, inr}
 use mathlib.Core.List.{List}
@@ -10,7 +10,6 @@ use lib.ListN.{length, replicate}
 use Rattle.theory.specs.Refusal.{due}
 use Rattle.theory.specs.Planning.{rbitsFor}
 use Rattle.layout.specs.declared.numbers.Numbers.{Numbers}
-use Rattle.layout.specs.declared.shape.Shape.{Shape}
 use Rattle.layout.specs.declared.shape.Shaped.{Shaped}
 use Rattle.layout.specs.declared.shape.Shaped.the-variants as shaped
 use Rattle.layout.specs.declared.planning.Needed.{Needed}
