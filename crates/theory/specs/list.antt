@@ -11,3 +11,4 @@ pub mod Seek
 pub mod Spot
 pub mod Stream
 pub mod Traces
+pub mod UpTo

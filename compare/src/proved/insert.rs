@@ -1,4 +1,4 @@
-//! Insert and remove, checked and quick.
+//! Insert, checked and quick.
 
 use super::Changed;
 use crate::model::Numbers;
@@ -18,8 +18,6 @@ unsafe extern "C" {
         hash: u64,
         max_count: u64,
     ) -> Changed;
-    fn strumblay_remove(buf: *mut u8, buf_len: usize, n: Numbers, hash: u64) -> Changed;
-    fn strumblay_remove_quick(buf: *mut u8, buf_len: usize, n: Numbers, hash: u64) -> Changed;
 }
 
 /// How many were held before, and the record afterwards.
@@ -33,11 +31,4 @@ pub fn insert(
     let ask = if quick { strumblay_insert_quick } else { strumblay_insert };
     // SAFETY: the slice is writable for its whole length and lent for the call only.
     unsafe { ask(buf.as_mut_ptr(), buf.len(), n, hash, max_count) }.result(n)
-}
-
-/// 1 if one copy was removed, 0 if absent; and the record afterwards.
-pub fn remove(quick: bool, buf: &mut [u8], n: Numbers, hash: u64) -> Result<(u64, Numbers), u64> {
-    let ask = if quick { strumblay_remove_quick } else { strumblay_remove };
-    // SAFETY: the slice is writable for its whole length and lent for the call only.
-    unsafe { ask(buf.as_mut_ptr(), buf.len(), n, hash) }.result(n)
 }
