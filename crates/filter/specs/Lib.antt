@@ -1,11 +1,14 @@
+pub mod Answers
 pub mod Asking
 pub mod Insert
+pub mod Kept
 pub mod Leaving
 pub mod Listing
 pub mod Lookup
 pub mod Moving
 pub mod Occupied
 pub mod Offsets
+pub mod Pinned
 pub mod Places
 pub mod Reading
 pub mod Remove
@@ -14,4 +17,5 @@ pub mod Scan
 pub mod Shifted
 pub mod Spots
 pub mod Steps
+pub mod Traces
 pub mod Writing

@@ -11,4 +11,5 @@ pub mod Scan
 pub mod Seek
 pub mod Spot
 pub mod Stream
+pub mod Traces
 pub mod UpTo
