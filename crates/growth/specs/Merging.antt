@@ -177,6 +177,10 @@ own-wanted zero la lb = (omega (arith, once-length (addedOnce [] la) lb .0), ome
 own-wanted (suc keep) la lb = (omega arith, omega arith)
 
 -- ---- the limit of self's qbits
+pub limit-none : (q mx : ℕ) → mx ≡ 0 → limit q mx ≡ q
+unfolding limit
+limit-none q mx h = choose-yes (ℕ-discrete mx 0) q mx h
+
 pub limit-some : (q mx : ℕ) → mx ≢ 0 → limit q mx ≡ mx
 unfolding limit
 limit-some q mx h = choose-no (ℕ-discrete mx 0) q mx h

@@ -3,13 +3,11 @@ pub mod Copies
 pub mod Fewer
 pub mod Firsts
 pub mod Flat
-pub mod Joined
 pub mod Last
 pub mod More
 pub mod Runs
 pub mod Scan
 pub mod Seek
 pub mod Spot
-pub mod Stream
 pub mod Traces
 pub mod UpTo

@@ -1,34 +1,47 @@
+-- `growth::merge::wanted_len`: the sum of lens, or the union's length and the larger len. Assumes nothing.
+use mathlib.Core.Path.{_≡_}
+use native.Mathlib.Omega.{arith}
+use lib.ListN.{length}
+use denote.Ref.{now}
+use Rattle.theory.specs.check.Refusals.{none-due}
+use Rattle.layout.specs.Judging.{clear-whole}
+use Rattle.growth.specs.Merging.{few, wants-sum, wants-union}
 use borrow.Author.Needs.{needs}
 use Rattle.growth.proofs.merge.wanted_len.Statement.{statement}
 use Rattle.growth.proofs.merge.wanted_len.Tie as tie
-use Rattle.growth.proofs.merge.wanted_len.Reads as reads
-use Rattle.growth.proofs.merge.wanted_len.Lts as lts
-use Rattle.filter.proofs.runs.larger.Reads as larger-reads
-use Rattle.growth.proofs.union.union_len.Reads as union-len-reads
 
--- src/merge.rt:34:16
 add-result : tie.Need-add-result
-add-result c = ?
+add-result c =
+    let s = c .before .before .before .before .before in
+    let a = s .args in
+    omega (arith, few (a .n) (now (a .buf)) (s .pre .0), few (a .m) (now (a .other)) (s .pre .1))
 
--- src/merge.rt:34:9
 returns : tie.Need-returns
-returns c = ?
+returns c =
+    let s = c .before .before .before .before .before in
+    let a = s .args in
+    wants-sum (a .n) (now (a .buf)) (a .m) (now (a .other)) (s .pre .0) (s .pre .1) (a .keep) (c .before .before .if1 .taken)
 
--- src/merge.rt:44:9
 union-len-requires : tie.Need-union-len-requires
-union-len-requires c κs = ?
+union-len-requires c κs =
+    let s = c .before .before .before in
+    let a = s .args in
+    let d = none-due (a .n .qbits) (a .n .rbits) (a .n .len) (a .n .«max_qbits») (length (now (a .buf))) (s .pre .0) in
+    let f = none-due (a .m .qbits) (a .m .rbits) (a .m .len) (a .m .«max_qbits») (length (now (a .other))) (s .pre .1) in
+    (clear-whole (a .n) (now (a .buf)) (s .pre .0), clear-whole (a .m) (now (a .other)) (s .pre .1), omega (arith, s .pre .2), d .fewer, f .fewer)
 
--- src/merge.rt:45:20
 larger-requires : tie.Need-larger-requires
 larger-requires c κs = search needs
 
--- src/merge.rt:45:5
 larger-requires-2 : tie.Need-larger-requires-2
 larger-requires-2 c κs = search needs
 
--- src/merge.rt:29:1
 returns-2 : tie.Need-returns-2
-returns-2 c = ?
+returns-2 c =
+    let s = c .before .before .before .before .before .before in
+    let a = s .args in
+    let none : a .keep ≡ 0 = omega (arith, c .before .before .before .if1 .left) in
+    rw (c .larger2 .ensures, c .before .larger .ensures) (wants-union (a .n) (now (a .buf)) (a .m) (now (a .other)) (s .pre .0) (s .pre .1) (a .keep) none _ (c .before .before .union-len .ensures))
 
 pub wanted-len-spec : {M : Type 1} → statement M
 wanted-len-spec =
