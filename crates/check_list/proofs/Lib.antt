@@ -1,3 +1,4 @@
 pub mod Asked
 pub mod Filled
+pub mod Lines
 pub mod Numerals

@@ -9,7 +9,7 @@ use native.Mathlib.Nat.{pow-suc}
 use lib.ListN.{length, length-append}
 use lib.Pow.{shr-shr}
 use Rattle.theory.specs.tools.Choose.{choose, choose-yes, choose-no}
-use Rattle.check_list.specs.Text.{digit, hex, decimalIn, decimal}
+use Rattle.check_list.specs.Text.{ascii, digit, hex, decimalIn, decimal, headline}
 
 pub digit-low : (d : ℕ) → d < 10 → digit d ≡ 48 + d
 unfolding digit
@@ -69,3 +69,7 @@ decimal-length (suc d) n h = go (decLt n 10) (λ p. decimal-length d (n / 10) p)
     go (no l) f =
         let p : n / 10 < 10 ^ suc d = omega (arith, pow-suc 10 (suc d)) in
         omega (arith, more-length n (omega arith), f p)
+
+pub headline-length : (word : List ℕ) (n : ℕ) → length (headline word n) ≡ length word + length (decimal n) + 2
+unfolding headline ascii
+headline-length word n = omega (arith, length-append word (32 ∷ decimal n ++ (10 ∷ [])), length-append (decimal n) (10 ∷ []))

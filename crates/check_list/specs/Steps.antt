@@ -1,5 +1,5 @@
 -- What the functions of the program below the report promise.
-use Prim.Native.Nat.{ℕ, suc, _+_, _*_, _≤_, _<_}
+use Prim.Native.Nat.{ℕ, suc, _<_}
 use mathlib.Core.Path.{_≡_}
 use mathlib.Core.List.{List}
 use lib.ListN.{length, getD}
@@ -16,8 +16,7 @@ PutStep n s p before after p′ =
     lowestDue n s ≡ 0 → (l : List ℕ) → HoldsOf n s l → (k : ℕ) → k < length l → p ≡ placeOf (n .qbits) (n .rbits) l k
     → (p′ ≡ placeOf (n .qbits) (n .rbits) l (suc k)) × Written (line (getD l k 0)) before after 17
 
--- a sound list at its first place, and room for its text
-pub record Ready (n : Numbers) (s : List ℕ) (p : Place) (size : ℕ) : Type 0 where
+-- a sound list and its first place
+pub record Ready (n : Numbers) (s : List ℕ) (p : Place) : Type 0 where
   pub sound : SoundOf n s
   pub first : p ≡ placeOf (n .qbits) (n .rbits) (sound .held) 0
-  pub room : 32 + 17 * n .len ≤ size

@@ -101,7 +101,7 @@ fn put_step(out: &mut [u8], buf: &[u8], n: Numbers, place: Place) -> Place
 
 // A line for each fingerprint from the first place on.
 fn put_lines(out: &mut [u8], buf: &[u8], n: Numbers, first: Place) -> usize
-    requires { ⌜ Ready n (now buf) first (length (now out)) ⌝ }
+    requires { ⌜ (Ready n (now buf) first) × (17 * n .len ≤ length (now out)) ⌝ }
     ensures { λ r. ⌜ ((h : SoundOf n (now (buf .entry))) → Written (lines (h .held)) (now (out .entry)) (now (out .exit)) r) ⌝ }
 {
     let mut place = first;
@@ -114,7 +114,7 @@ fn put_lines(out: &mut [u8], buf: &[u8], n: Numbers, first: Place) -> usize
 }
 
 fn put_sound(out: &mut [u8], buf: &[u8], n: Numbers, first: Place) -> usize
-    requires { ⌜ Ready n (now buf) first (length (now out)) ⌝ }
+    requires { ⌜ (Ready n (now buf) first) × (32 + 17 * n .len ≤ length (now out)) ⌝ }
     ensures { λ r. ⌜ ((h : SoundOf n (now (buf .entry))) → Written (sound (n .len) (h .held)) (now (out .entry)) (now (out .exit)) r) ⌝ }
 {
     let at = put_headline(out, b"sound", n.len);

@@ -38,7 +38,7 @@ module _ (t : ℕ) where
   digit-requires c κs = omega arith
 
   slice-write-out : lts.Need-slice-write-out (digit-reads.Asked, digit-reads.Learnt, below t, put-decimal.Post) (at t) put-decimal.Post
-  slice-write-out c = 
+  slice-write-out c =
       let a = c .before .before .before in
       omega (arith, a .pre .1, ap length (decimal-small (a .args .n) (c .before .if1 .taken)))
 
@@ -46,13 +46,13 @@ module _ (t : ℕ) where
   same-length c = simp length-set
 
   returns : lts.Need-returns (digit-reads.Asked, digit-reads.Learnt, below t, put-decimal.Post) (at t) put-decimal.Post
-  returns c = 
+  returns c =
       let a = c .before .before .before in
       let e : digit (a .args .n) ∷ [] ≡ decimal (a .args .n) = sym (decimal-small (a .args .n) (c .before .if1 .taken)) in
       written-as _ _ _ _ (written-byte [] _ _ 0 (written-none (a .args .out .now)) (c .digit .result) (slice-write-out c)) _ (ap (λ (x : ℕ). x ∷ []) (c .digit .ensures) ∙ e)
 
   put-decimal-requires : lts.Need-put-decimal-requires (digit-reads.Asked, digit-reads.Learnt, below t, put-decimal.Post) (at t) put-decimal.Post
-  put-decimal-requires c κs = 
+  put-decimal-requires c κs =
       let a = c .before .before .before in
       (omega (arith, a .pre .0), omega (arith, a .pre .1, more-length (a .args .n) (c .before .if1 .left)))
 
@@ -60,22 +60,22 @@ module _ (t : ℕ) where
   digit-requires-2 c κs = omega arith
 
   slice-write-out-2 : lts.Need-slice-write-out-2 (digit-reads.Asked, digit-reads.Learnt, below t, put-decimal.Post) (at t) put-decimal.Post
-  slice-write-out-2 c = 
+  slice-write-out-2 c =
       let p = c .before .before .before in
       omega (arith, room p, written-length _ _ _ _ (p .put-decimal .ensures) (omega (arith, room p)))
 
   add-result : lts.Need-add-result (digit-reads.Asked, digit-reads.Learnt, below t, put-decimal.Post) (at t) put-decimal.Post
-  add-result c = 
+  add-result c =
       let p = c .before .before .before in
       omega (arith, room p)
 
   same-length-2 : lts.Need-same-length-2 (digit-reads.Asked, digit-reads.Learnt, below t, put-decimal.Post) (at t) put-decimal.Post
-  same-length-2 c = 
+  same-length-2 c =
       let p = c .before .before .before in
       simp length-set (written-length _ _ _ _ (p .put-decimal .ensures) (omega (arith, room p)))
 
   returns-2 : lts.Need-returns-2 (digit-reads.Asked, digit-reads.Learnt, below t, put-decimal.Post) (at t) put-decimal.Post
-  returns-2 c = 
+  returns-2 c =
       let p = c .before .before .before in
       let n = p .before .before .before .before .args .n in
       let e : decimal (n / 10) ++ (c .digit2 .result ∷ []) ≡ decimal n = rw (c .digit2 .ensures) (sym (decimal-more n (p .before .before .if1 .left))) in
