@@ -1,5 +1,3 @@
-pub mod Answers
-pub mod Asked
 pub mod Filled
 pub mod Lines
 pub mod Numerals

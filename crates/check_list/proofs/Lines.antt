@@ -1,14 +1,10 @@
--- A line per fingerprint, one by one; and the list that a sound buffer holds is one. Assumes nothing.
+-- A line per fingerprint, one by one. Assumes nothing.
 use Prim.Native.Nat.{ℕ, suc, _+_, _*_, _≤_, _<_}
 use mathlib.Core.Path.{_≡_, refl, sym, ap, _∙_}
 use mathlib.Core.List.{List, [], _∷_, _++_, append-assoc, append-nil}
 use native.Mathlib.Omega.{arith}
 use lib.ListN.{length, take, getD, length-append}
 use lib.Seq.{take-suc}
-use Rattle.theory.specs.layout.Images.{image-tells}
-use Rattle.filter.specs.declared.numbers.Numbers.{Numbers}
-use Rattle.filter.specs.Verdicts.{SoundOf}
-use Rattle.filter.specs.Listing.{passed-whole}
 use Rattle.check_list.specs.Text.{ascii, hex, line, lines}
 use Rattle.check_list.proofs.Numerals.{hex-length}
 
@@ -30,7 +26,3 @@ lines-append (f ∷ l) m = ap (λ (t : List ℕ). line f ++ t) (lines-append l m
 pub lines-next : (l : List ℕ) (k : ℕ) → k < length l → lines (take (suc k) l) ≡ lines (take k l) ++ line (getD l k 0)
 unfolding lines
 lines-next l k h = ap lines (take-suc l k 0 h) ∙ lines-append (take k l) (getD l k 0 ∷ []) ∙ ap (λ (t : List ℕ). lines (take k l) ++ t) (append-nil (line (getD l k 0)))
-
-pub same-held : (n : Numbers) (s : List ℕ) (h h′ : SoundOf n s) → h .held ≡ h′ .held
-same-held n s h h′ =
-    image-tells (n .qbits) (n .rbits) (passed-whole n s (h .none) .widths .low) (h .held) (h′ .held) (h .holds .holding) (h′ .holds .holding) (sym (h .holds .bytes) ∙ h′ .holds .bytes)

@@ -4,6 +4,7 @@ ghost use Prim.Native.Nat.{ℕ, _+_, _*_, _≤_, _<_};
 ghost use lib.ListN.{length};
 ghost use Rattle.check_list.specs.Text.{lines, Written};
 ghost use Rattle.filter.specs.Verdicts.{SoundOf};
+ghost use Rattle.check_list.specs.Enough.{enough};
 ghost use Rattle.check_list.specs.Report.{numbersOf, markDue, headerDue, refused, sound, reportOf};
 ghost use Rattle.check_list.specs.Steps.{PutStep, Ready};
 use crate::text::put_headline;
@@ -26,10 +27,17 @@ const HEADER: usize = 13;
 const SLOTS: usize = 1 << MAX_QBITS;
 
 // The header, the largest buffer, and one byte more.
-pub const INPUT: usize = HEADER + (SLOTS / 64 * (17 + 8 * (64 - MAX_QBITS as usize)) + 8) + 1;
+const INPUT: usize = HEADER + (SLOTS / 64 * (17 + 8 * (64 - MAX_QBITS as usize)) + 8) + 1;
 
 // A line with a word and a number, and a line for each slot.
 pub const TEXT: usize = 32 + 17 * SLOTS;
+
+// Room for as much of the input as can matter.
+pub fn input_room() -> [u8; INPUT]
+    ensures { λ r. ⌜ length r ≡ enough ⌝ }
+{
+    [0; INPUT]
+}
 
 // Number 13, or 0.
 fn mark_due(input: &[u8]) -> u8

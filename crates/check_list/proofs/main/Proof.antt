@@ -6,6 +6,9 @@ use borrow.Author.Needs.{needs}
 use Rattle.check_list.proofs.main.Statement.{statement}
 use Rattle.check_list.proofs.main.Tie as tie
 
+input-room-requires : tie.Need-input-room-requires
+input-room-requires c κs = search needs
+
 slice-aggregate-read-full : tie.Need-slice-aggregate-read-full
 slice-aggregate-read-full c = search needs
 
@@ -37,6 +40,7 @@ pub main-spec : {M : Type 1} → statement M
 main-spec =
     tie.close
     (tie.spec
+    input-room-requires
     slice-aggregate-read-full
     read-full-requires
     array-share-prefix-input

@@ -8,7 +8,7 @@ use Rattle.theory.specs.check.Refusals.{widths-none, widths-due}
 use Rattle.filter.specs.Shapes.{ShapedAs}
 use Rattle.filter.specs.declared.shape.Shaped.the-variants.{Of, Refused}
 use Rattle.check_list.specs.Report.{numbersOf, markDue, maxQbits}
-use Rattle.check_list.proofs.Asked.{none-mark, limit-due, limit-none, header-mark, header-widths, header-limit}
+use Rattle.check_list.specs.Asked.{none-mark, limit-due, limit-none, header-mark, header-widths, header-limit}
 use borrow.Author.Needs.{needs}
 use Rattle.check_list.proofs.report.header_due.Statement.{statement}
 use Rattle.check_list.proofs.report.header_due.Tie as tie

@@ -13,7 +13,8 @@ use Rattle.filter.specs.Places.{placeOf, place-left}
 use Rattle.check_list.specs.Text.{lines, Written}
 use Rattle.check_list.specs.Steps.{PutStep}
 use Rattle.check_list.proofs.Filled.{written-none, written-as, written-more, written-length, rest}
-use Rattle.check_list.proofs.Lines.{lines-length, lines-next, same-held}
+use Rattle.check_list.specs.Answers.{same-held}
+use Rattle.check_list.proofs.Lines.{lines-length, lines-next}
 use borrow.Rule.Slice.PartMut.{putMid}
 use borrow.Author.Needs.{needs}
 use Rattle.check_list.proofs.report.put_lines.Statement.{statement}

@@ -10,8 +10,8 @@ use Rattle.filter.specs.declared.listing.Begun.the-variants as begun
 use Rattle.filter.specs.Listing.{Begins}
 use Rattle.check_list.specs.Report.{numbersOf, headerDue, maxQbits, refused}
 use Rattle.check_list.specs.Steps.{Ready}
-use Rattle.check_list.proofs.Asked.{none-header}
-use Rattle.check_list.proofs.Answers.{part, report-header, report-refused, report-ready, report-sound, report-few}
+use Rattle.check_list.specs.Asked.{none-header}
+use Rattle.check_list.specs.Answers.{part, report-header, report-refused, report-ready, report-sound, report-few}
 use Rattle.check_list.proofs.Filled.{written-as}
 use borrow.Author.Needs.{needs}
 use Rattle.check_list.proofs.report.report.Statement.{statement}

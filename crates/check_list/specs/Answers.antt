@@ -9,23 +9,28 @@ use lib.ListN.{length, take, drop, length-drop}
 use lib.Pow.{pow-mono}
 use lib.Seq.{take-all}
 use Rattle.theory.specs.Shape.{slots}
+use Rattle.theory.specs.layout.Images.{image-tells}
 use Rattle.theory.specs.check.Decides.{sound-dec}
 use Rattle.theory.specs.check.Refusals.{else-none, else-some, due-rest, none-due}
 use Rattle.filter.specs.declared.numbers.Numbers.{Numbers}
 use Rattle.filter.specs.declared.listing.Place.{Place}
 use Rattle.filter.specs.declared.listing.Begun.the-variants as begun
 use Rattle.filter.specs.Verdicts.{lowestDue, SoundOf}
-use Rattle.filter.specs.Listing.{Begins}
+use Rattle.filter.specs.Listing.{Begins, passed-whole}
 use Rattle.filter.specs.Places.{placeOf}
 use Rattle.check_list.specs.Report.{numbersOf, bufferOf, maxQbits, headerDue, numberDue, refused, sound, checked, answer, reportFor, reportOf}
 use Rattle.check_list.specs.Steps.{Ready}
-use Rattle.check_list.proofs.Asked.{none-header}
-use Rattle.check_list.proofs.Lines.{same-held}
+use Rattle.check_list.specs.Asked.{none-header}
 
 -- the part of the input that is lent from byte 13 on
 pub part : (s : List ℕ) → take (length s - 13) (drop 13 s) ≡ bufferOf s
 unfolding bufferOf
 part s = take-all (length s - 13) (drop 13 s) (omega (arith, length-drop 13 s))
+
+-- a sound buffer holds one list
+pub same-held : (n : Numbers) (s : List ℕ) (h h′ : SoundOf n s) → h .held ≡ h′ .held
+same-held n s h h′ =
+    image-tells (n .qbits) (n .rbits) (passed-whole n s (h .none) .widths .low) (h .held) (h′ .held) (h .holds .holding) (h′ .holds .holding) (sym (h .holds .bytes) ∙ h′ .holds .bytes)
 
 answer-some : (k : ℕ) (text : List ℕ) → 0 < k → answer k text ≡ refused k
 unfolding answer
@@ -47,12 +52,17 @@ unfolding checked
 checked-damaged n b (yes g) h = absurd (h g)
 checked-damaged n b (no g) h = refl
 
+-- a number from 1 to 5, 13 or 14 is due
+pub report-number : (s : List ℕ) → 0 < numberDue s (numbersOf s) → reportOf s ≡ refused (numberDue s (numbersOf s))
+unfolding reportOf reportFor
+report-number s h = answer-some (numberDue s (numbersOf s)) _ h
+
 -- 13, 1 or 14 is due
 pub report-header : (s : List ℕ) → 0 < headerDue s (numbersOf s) → reportOf s ≡ refused (headerDue s (numbersOf s))
-unfolding reportOf reportFor numberDue
+unfolding numberDue
 report-header s h =
     let e : numberDue s (numbersOf s) ≡ headerDue s (numbersOf s) = else-some (headerDue s (numbersOf s)) _ h in
-    rw e (answer-some (headerDue s (numbersOf s)) _ h)
+    report-number s (omega (arith, e)) ∙ ap refused e
 
 module _ (s : List ℕ) (n : Numbers) (b : List ℕ) (is : n ≡ numbersOf s) (from : b ≡ bufferOf s) (none : headerDue s (numbersOf s) ≡ 0) where
   -- then the checked call decides
