@@ -73,3 +73,7 @@ decimal-length (suc d) n h = go (decLt n 10) (λ p. decimal-length d (n / 10) p)
 pub headline-length : (word : List ℕ) (n : ℕ) → length (headline word n) ≡ length word + length (decimal n) + 2
 unfolding headline ascii
 headline-length word n = omega (arith, length-append word (32 ∷ decimal n ++ (10 ∷ [])), length-append (decimal n) (10 ∷ []))
+
+-- the line of a short word and a number of 64 bits fits into 32 bytes
+pub headline-short : (word : List ℕ) (n : ℕ) → length word ≤ 7 → n < 2 ^ 64 → length (headline word n) ≤ 32
+headline-short word n h b = omega (arith, headline-length word n, decimal-length 19 n (omega arith))

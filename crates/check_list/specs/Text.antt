@@ -2,7 +2,7 @@
 use Prim.Native.Nat.{ℕ, zero, suc, _+_, _-_, _/_, _%_}
 use Prim.Native.Char.{code}
 use Prim.Native.String.{String, [] as none, _∷_ as _then_}
-use mathlib.Core.Path.{_≡_}
+use mathlib.Core.Path.{_≡_, sym, ap, _∙_}
 use mathlib.Core.List.{List, [], _∷_, _++_}
 use native.Mathlib.Decide.{decLt}
 use lib.ListN.{length, drop}
@@ -47,3 +47,9 @@ lines (f ∷ l) = line f ++ lines l
 pub record Written (text before after : List ℕ) (count : ℕ) : Type 0 where
   pub many : count ≡ length text
   pub whole : after ≡ text ++ drop count before
+
+-- two outcomes that keep such a promise coincide
+pub written-one : (text before a b : List ℕ) (i j : ℕ) → Written text before a i → Written text before b j → (a ≡ b) × (i ≡ j)
+written-one text before a b i j v w =
+    let e : i ≡ j = v .many ∙ sym (w .many) in
+    (v .whole ∙ ap (λ (k : ℕ). text ++ drop k before) e ∙ sym (w .whole), e)

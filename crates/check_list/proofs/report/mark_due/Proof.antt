@@ -19,7 +19,7 @@ shared-slice-read-if3 : tie.Need-shared-slice-read-if3
 shared-slice-read-if3 c = search needs
 
 returns-3 : tie.Need-returns-3
-returns-3 c = sym (mark-second _ (omega arith) (c .before .before .if2 .left) (c .if3 .taken))
+returns-3 c = sym (mark-second _ (omega arith) (c .before .before .if2 .left) (λ e. omega (arith, e)))
 
 returns-4 : tie.Need-returns-4
 returns-4 c = sym (mark-none _ (omega arith) (c .before .before .if2 .left) (c .if3 .left))

@@ -83,7 +83,7 @@ loop-holds c =
 sub-put-step : tie.Need-sub-put-step Inv-loop μ-loop
 sub-put-step c =
     let l = c .before .before in
-    omega (arith, same _ _ _ _ _ _ (going l), more _ _ _ _ _ _ (going l) (c .if1 .taken))
+    omega (arith, same _ _ _ _ _ _ (going l), more _ _ _ _ _ _ (going l) (omega (arith, c .if1 .taken)))
 
 part-put-step-start : tie.Need-part-put-step-start Inv-loop μ-loop
 part-put-step-start c = sub-put-step c
@@ -94,17 +94,17 @@ part-put-step-end c = search needs
 put-step-requires : tie.Need-put-step-requires Inv-loop μ-loop
 put-step-requires c κs =
     let l = c .before .before .before in
-    omega (arith, behind _ _ _ _ _ _ (going l), more _ _ _ _ _ _ (going l) (c .before .if1 .taken))
+    omega (arith, behind _ _ _ _ _ _ (going l), more _ _ _ _ _ _ (going l) (omega (arith, c .before .if1 .taken)))
 
 add-at : tie.Need-add-at Inv-loop μ-loop
 add-at c =
     let l = c .before .before .before .before .before .before in
-    omega (arith, more _ _ _ _ _ _ (going l) (c .before .before .before .before .if1 .taken))
+    omega (arith, more _ _ _ _ _ _ (going l) (omega (arith, c .before .before .before .before .if1 .taken)))
 
 loop-again : tie.Need-loop-again Inv-loop μ-loop
 loop-again c =
     let s = c .before .before in
-    next _ _ _ _ _ _ (going (s .before .before .before .before)) (s .before .before .if1 .taken) _ _ (s .put-step .ensures)
+    next _ _ _ _ _ _ (going (s .before .before .before .before)) (omega (arith, s .before .before .if1 .taken)) _ _ (s .put-step .ensures)
 
 loop-less : tie.Need-loop-less Inv-loop μ-loop
 loop-less c =

@@ -1,9 +1,9 @@
--- `check_list::report::put_refused`: any number of 64 bits has at most 20 digits, so 32 bytes are enough. Assumes nothing.
-use mathlib.Core.List.{[], _∷_}
+-- `check_list::report::put_refused`: the line fits. Assumes nothing.
 use native.Mathlib.Omega.{arith}
+use native.Mathlib.Nat.{le-trans}
 use Rattle.check_list.specs.Text.{ascii}
 use Rattle.check_list.specs.Report.{refused}
-use Rattle.check_list.proofs.Numerals.{headline-length, decimal-length}
+use Rattle.check_list.proofs.Numerals.{headline-short}
 use borrow.Author.Needs.{needs}
 use Rattle.check_list.proofs.report.put_refused.Statement.{statement}
 use Rattle.check_list.proofs.report.put_refused.Tie as tie
@@ -14,7 +14,7 @@ slice-aggregate-put-headline c = search needs
 put-headline-requires : tie.Need-put-headline-requires
 put-headline-requires c κs =
     let a = c .before .before .before in
-    omega (arith, a .pre, headline-length (114 ∷ 101 ∷ 102 ∷ 117 ∷ 115 ∷ 101 ∷ 100 ∷ []) (a .args .number), decimal-length 19 (a .args .number) (omega arith))
+    le-trans (headline-short _ (a .args .number) (omega arith) (omega arith)) (a .pre)
 
 same-length : tie.Need-same-length
 same-length c = search needs

@@ -1,21 +1,17 @@
 -- `check_list::report::put_sound`: the first line, and the lines of the fingerprints behind it. Assumes nothing.
-use Prim.Native.Nat.{ℕ, _+_, _*_, _≤_}
+use Prim.Native.Nat.{_≤_}
 use mathlib.Core.Path.{_≡_, ap}
-use mathlib.Core.List.{[], _∷_}
 use native.Mathlib.Omega.{arith}
+use native.Mathlib.Nat.{le-trans}
 use lib.ListN.{length, length-drop}
-use Rattle.check_list.specs.Text.{ascii, headline}
+use Rattle.check_list.specs.Text.{ascii}
 use Rattle.check_list.specs.Report.{sound}
 use Rattle.check_list.proofs.Filled.{written-more, written-length, rest}
 use Rattle.check_list.proofs.Lines.{lines-length}
-use Rattle.check_list.proofs.Numerals.{headline-length, decimal-length}
+use Rattle.check_list.proofs.Numerals.{headline-short}
 use borrow.Author.Needs.{needs}
 use Rattle.check_list.proofs.report.put_sound.Statement.{statement}
 use Rattle.check_list.proofs.report.put_sound.Tie as tie
-
--- the first line fits into 32 bytes
-short : (n : ℕ) → n ≤ 18446744073709551615 → length (headline (115 ∷ 111 ∷ 117 ∷ 110 ∷ 100 ∷ []) n) ≤ 32
-short n h = omega (arith, headline-length (115 ∷ 111 ∷ 117 ∷ 110 ∷ 100 ∷ []) n, decimal-length 19 n (omega arith))
 
 slice-aggregate-put-headline : tie.Need-slice-aggregate-put-headline
 slice-aggregate-put-headline c = search needs
@@ -23,7 +19,7 @@ slice-aggregate-put-headline c = search needs
 put-headline-requires : tie.Need-put-headline-requires
 put-headline-requires c κs =
     let a = c .before .before .before .before in
-    omega (arith, a .pre .1, short (a .args .n .len) (omega arith))
+    le-trans (headline-short _ (a .args .n .len) (omega arith) (omega arith)) (omega (arith, a .pre .1))
 
 -- the first line is written
 abbrev start : tie.After-put-headline → tie.Start
@@ -31,7 +27,7 @@ start c = c .before .before .before .before .before
 
 first : (c : tie.After-put-headline) → (c .put-headline .result ≤ 32) × (length (c .put-headline .last .0) ≡ length (start c .args .out .now))
 first c =
-    let k : c .put-headline .result ≤ 32 = omega (arith, c .put-headline .ensures .many, short (start c .args .n .len) (omega arith)) in
+    let k : c .put-headline .result ≤ 32 = rw (c .put-headline .ensures .many) (headline-short _ (start c .args .n .len) (omega arith) (omega arith)) in
     (k, written-length _ _ _ _ (c .put-headline .ensures) (omega (arith, start c .pre .1)))
 
 sub-put-lines : tie.Need-sub-put-lines
