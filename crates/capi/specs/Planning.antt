@@ -9,20 +9,20 @@ use Rattle.theory.specs.Shape.{bytes}
 use Rattle.bits.specs.Select.{Selected}
 use Rattle.bits.specs.declared.select.Found.{Found}
 use Rattle.bits.specs.declared.select.Found.the-variants as found
-use Rattle.filter.specs.declared.numbers.Numbers.{Numbers}
-use Rattle.filter.specs.declared.planning.Needed.{Needed}
-use Rattle.filter.specs.declared.planning.Needed.the-variants as needed
-use Rattle.filter.specs.declared.planning.Specified.{Specified}
-use Rattle.filter.specs.declared.planning.Specified.the-variants as specified
-use Rattle.filter.specs.declared.planning.Planned.{Planned}
-use Rattle.filter.specs.declared.planning.Planned.the-variants as planned
-use Rattle.filter.specs.declared.shape.Shaped.{Shaped}
-use Rattle.filter.specs.declared.shape.Shaped.the-variants as shaped
-use Rattle.filter.specs.declared.fresh.Made.{Made}
-use Rattle.filter.specs.declared.fresh.Made.the-variants as made
-use Rattle.filter.specs.Plans.{NeededAs, SpecifiedAs, PlannedAs}
-use Rattle.filter.specs.Shapes.{ShapedAs}
-use Rattle.filter.specs.Fresh.{MadeAs}
+use Rattle.layout.specs.declared.numbers.Numbers.{Numbers}
+use Rattle.layout.specs.declared.planning.Needed.{Needed}
+use Rattle.layout.specs.declared.planning.Needed.the-variants as needed
+use Rattle.layout.specs.declared.planning.Specified.{Specified}
+use Rattle.layout.specs.declared.planning.Specified.the-variants as specified
+use Rattle.layout.specs.declared.planning.Planned.{Planned}
+use Rattle.layout.specs.declared.planning.Planned.the-variants as planned
+use Rattle.layout.specs.declared.shape.Shaped.{Shaped}
+use Rattle.layout.specs.declared.shape.Shaped.the-variants as shaped
+use Rattle.layout.specs.declared.fresh.Made.{Made}
+use Rattle.layout.specs.declared.fresh.Made.the-variants as made
+use Rattle.layout.specs.Plans.{NeededAs, SpecifiedAs, PlannedAs}
+use Rattle.layout.specs.Shapes.{ShapedAs}
+use Rattle.layout.specs.Fresh.{MadeAs}
 use Rattle.capi.specs.declared.planning.Outcome.{Outcome}
 use Rattle.capi.specs.declared.planning.Specs.{Specs}
 use Rattle.capi.specs.declared.planning.Plan.{Plan}

@@ -2,14 +2,14 @@
 use Prim.Native.Nat.{ℕ}
 use mathlib.Core.Path.{_≡_}
 use mathlib.Core.List.{List}
-use Rattle.filter.specs.declared.numbers.Numbers.{Numbers}
-use Rattle.filter.specs.declared.check.Verdict.{Verdict}
-use Rattle.filter.specs.declared.check.Verdict.the-variants as verdict
+use Rattle.layout.specs.declared.numbers.Numbers.{Numbers}
+use Rattle.layout.specs.declared.check.Verdict.{Verdict}
+use Rattle.layout.specs.declared.check.Verdict.the-variants as verdict
 use Rattle.filter.specs.declared.contains.Lookup.{Lookup}
 use Rattle.filter.specs.declared.contains.Lookup.the-variants as lookup
 use Rattle.filter.specs.declared.contains.Counting.{Counting}
 use Rattle.filter.specs.declared.contains.Counting.the-variants as counting
-use Rattle.filter.specs.Verdicts.{Judged}
+use Rattle.layout.specs.Verdicts.{Judged}
 use Rattle.filter.specs.Asking.{Contains, ContainsQuick, Count, CountQuick}
 use Rattle.capi.specs.declared.planning.Outcome.{Outcome}
 use Rattle.capi.specs.declared.reading.Looked.{Looked}

@@ -4,7 +4,7 @@ ghost use Rattle.capi.specs.Listing.{begunOf, nextOf, BeginOutcome, Step
 use filter::listing::Begun;
 use filter::listing::Place;
 use filter::listing::Step;
-use filter::numbers::Numbers;
+use layout::numbers::Numbers;
 
 // The place of the first fingerprint, all 0 if refused.
 #[repr(C)]

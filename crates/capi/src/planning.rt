@@ -1,18 +1,18 @@
 // Select, planning, lengths and fresh filters.
 ghost use mathlib.Core.Path.{_≡_};
 ghost use Rattle.bits.specs.Select.{Selected};
-ghost use Rattle.filter.specs.Plans.{NeededAs, SpecifiedAs, PlannedAs};
-ghost use Rattle.filter.specs.Shapes.{ShapedAs};
-ghost use Rattle.filter.specs.Fresh.{MadeAs};
+ghost use Rattle.layout.specs.Plans.{NeededAs, SpecifiedAs, PlannedAs};
+ghost use Rattle.layout.specs.Shapes.{ShapedAs};
+ghost use Rattle.layout.specs.Fresh.{MadeAs};
 ghost use Rattle.capi.specs.Planning.{PositionOf, NeededOutcome, SpecsOutcome, PlanOutcome, LengthOutcome, FreshOutcome};
 use bits::select::Found;
-use filter::fresh::Made;
-use filter::numbers::Numbers;
-use filter::planning::Needed;
-use filter::planning::Planned;
-use filter::planning::Specified;
-use filter::shape::Shape;
-use filter::shape::Shaped;
+use layout::fresh::Made;
+use layout::numbers::Numbers;
+use layout::planning::Needed;
+use layout::planning::Planned;
+use layout::planning::Specified;
+use layout::shape::Shape;
+use layout::shape::Shaped;
 
 // A refusal's number, or 0 and a value.
 #[repr(C)]
@@ -64,7 +64,7 @@ pub extern "C" fn strumblay_select(x: u64, n: u64) -> u64
 pub extern "C" fn strumblay_slots_for(capacity: u64) -> Outcome
     ensures { λ r. ⌜ NeededOutcome capacity r ⌝ }
 {
-    let needed = filter::planning::needed_qbits(capacity);
+    let needed = layout::planning::needed_qbits(capacity);
     match needed {
         Needed::Qbits(q) => Outcome {
             number: 0,
@@ -81,7 +81,7 @@ pub extern "C" fn strumblay_slots_for(capacity: u64) -> Outcome
 pub extern "C" fn strumblay_filter_specs(capacity: u64, rate: f64) -> Specs
     ensures { λ r. ⌜ SpecsOutcome capacity rate r ⌝ }
 {
-    let specified = filter::planning::filter_specs(capacity, rate);
+    let specified = layout::planning::filter_specs(capacity, rate);
     match specified {
         Specified::Specs(s) => Specs {
             number: 0,
@@ -108,7 +108,7 @@ pub extern "C" fn strumblay_filter_specs(capacity: u64, rate: f64) -> Specs
 pub extern "C" fn strumblay_plan(initial: u64, most: u64, rate: f64) -> Plan
     ensures { λ r. ⌜ PlanOutcome initial most rate r ⌝ }
 {
-    let planned = filter::planning::plan_resizeable(initial, most, rate);
+    let planned = layout::planning::plan_resizeable(initial, most, rate);
     match planned {
         Planned::Widths(n) => Plan {
             number: 0,
@@ -148,7 +148,7 @@ pub extern "C" fn strumblay_buffer_len(qbits: u8, rbits: u8) -> Outcome
 pub extern "C" fn strumblay_fresh(qbits: u8, rbits: u8, max_qbits: u8, buf: &mut [u8]) -> Changed
     ensures { λ r. ⌜ FreshOutcome (now (buf .entry)) qbits rbits «max_qbits» r (now (buf .exit)) ⌝ }
 {
-    let made = filter::fresh::fresh(buf, qbits, rbits, max_qbits);
+    let made = layout::fresh::fresh(buf, qbits, rbits, max_qbits);
     match made {
         Made::Fresh(n) => Changed {
             number: 0,

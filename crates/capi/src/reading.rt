@@ -3,10 +3,10 @@ ghost use Rattle.capi.specs.Reading.{CheckOutcome, ContainsOutcome, Cont
 ghost use mathlib.Core.Path.{_≡_};
 ghost use Rattle.capi.specs.Reading.{verdictOf, lookedOf, countedOf};
 use crate::planning::Outcome;
-use filter::check::Verdict;
 use filter::contains::Counting;
 use filter::contains::Lookup;
-use filter::numbers::Numbers;
+use layout::check::Verdict;
+use layout::numbers::Numbers;
 
 // A refusal's number, or 0, whether held (1 or 0), and the remainders compared.
 #[repr(C)]
@@ -58,7 +58,7 @@ fn as_counted(counting: Counting) -> Outcome
 pub extern "C" fn strumblay_check(buf: &[u8], n: Numbers) -> u64
     ensures { λ r. ⌜ CheckOutcome n (now (buf .entry)) r ⌝ }
 {
-    let verdict = filter::check::check(buf, n);
+    let verdict = layout::check::check(buf, n);
     match verdict {
         Verdict::Sound => 0,
         Verdict::Refused(k) => k as u64,

@@ -12,10 +12,10 @@ use Rattle.theory.specs.Shape.{slots}
 use Rattle.theory.specs.layout.Images.{image-tells}
 use Rattle.theory.specs.check.Decides.{sound-dec}
 use Rattle.theory.specs.check.Refusals.{else-none, else-some, due-rest, none-due}
-use Rattle.filter.specs.declared.numbers.Numbers.{Numbers}
+use Rattle.layout.specs.declared.numbers.Numbers.{Numbers}
 use Rattle.filter.specs.declared.listing.Place.{Place}
 use Rattle.filter.specs.declared.listing.Begun.the-variants as begun
-use Rattle.filter.specs.Verdicts.{lowestDue, SoundOf}
+use Rattle.layout.specs.Verdicts.{lowestDue, SoundOf}
 use Rattle.filter.specs.Listing.{Begins, passed-whole}
 use Rattle.filter.specs.Places.{placeOf}
 use Rattle.check_list.specs.Report.{numbersOf, bufferOf, maxQbits, headerDue, numberDue, refused, sound, checked, answer, reportFor, reportOf}

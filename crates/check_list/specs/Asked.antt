@@ -10,7 +10,7 @@ use Rattle.theory.specs.tools.Choose.{choose-yes, choose-no}
 use Rattle.theory.specs.Shape.{Widths}
 use Rattle.theory.specs.Refusal.{widthsDue}
 use Rattle.theory.specs.check.Refusals.{else-none, else-some, else-first, else-second, none-widths}
-use Rattle.filter.specs.declared.numbers.Numbers.{Numbers}
+use Rattle.layout.specs.declared.numbers.Numbers.{Numbers}
 use Rattle.check_list.specs.Report.{markDue, maxQbits, limitDue, headerDue}
 
 -- ---- 13

@@ -15,7 +15,7 @@ use Rattle.theory.specs.number.Bytes.{le-part, le-take}
 use Rattle.theory.specs.number.Field.{field, field-mod}
 use Rattle.theory.specs.layout.Sizes.{slots-blocks}
 use Rattle.theory.specs.check.Refusals.{else-none, due-size}
-use Rattle.filter.specs.declared.numbers.Numbers.{Numbers}
+use Rattle.layout.specs.declared.numbers.Numbers.{Numbers}
 use Rattle.check_list.specs.Report.{numbersOf, bufferOf, maxQbits, headerDue, numberDue, markDue, refused, reportOf}
 use Rattle.check_list.specs.Asked.{none-header}
 use Rattle.check_list.specs.Answers.{report-header, report-number}

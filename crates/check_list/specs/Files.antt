@@ -14,8 +14,8 @@ use Rattle.theory.specs.Holding.{Holding}
 use Rattle.theory.specs.Image.{image}
 use Rattle.theory.specs.check.Promises.{a-filter}
 use Rattle.theory.specs.check.Refusals.{widths-none}
-use Rattle.filter.specs.declared.numbers.Numbers.{Numbers}
-use Rattle.filter.specs.Verdicts.{SoundOf}
+use Rattle.layout.specs.declared.numbers.Numbers.{Numbers}
+use Rattle.layout.specs.Verdicts.{SoundOf}
 use Rattle.check_list.specs.Report.{numbersOf, bufferOf, markDue, maxQbits, headerDue, sound, reportOf}
 use Rattle.check_list.specs.Asked.{mark-none, header-limit, limit-none}
 use Rattle.check_list.specs.Answers.{report-sound}

@@ -8,7 +8,7 @@ use Rattle.theory.specs.number.Bytes.{le}
 use Rattle.theory.specs.Refusal.{orElse, widthsDue, dueOf}
 use Rattle.theory.specs.Sound.{Sound}
 use Rattle.theory.specs.check.Decides.{sound-dec}
-use Rattle.filter.specs.declared.numbers.Numbers.{Numbers}
+use Rattle.layout.specs.declared.numbers.Numbers.{Numbers}
 use Rattle.check_list.specs.Text.{ascii, headline, lines}
 
 -- ---- the input: mark 51 46, len in 8 little-endian bytes, qbits, rbits, max_qbits, buffer

@@ -3,9 +3,9 @@ use Prim.Native.Nat.{ℕ, suc, _<_}
 use mathlib.Core.Path.{_≡_}
 use mathlib.Core.List.{List}
 use lib.ListN.{length, getD}
-use Rattle.filter.specs.declared.numbers.Numbers.{Numbers}
+use Rattle.layout.specs.declared.numbers.Numbers.{Numbers}
 use Rattle.filter.specs.declared.listing.Place.{Place}
-use Rattle.filter.specs.Verdicts.{lowestDue, SoundOf}
+use Rattle.layout.specs.Verdicts.{lowestDue, SoundOf}
 use Rattle.filter.specs.Listing.{HoldsOf}
 use Rattle.filter.specs.Places.{placeOf}
 use Rattle.check_list.specs.Text.{line, Written}

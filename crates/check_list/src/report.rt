@@ -3,7 +3,7 @@ ghost use mathlib.Core.Path.{_≡_};
 ghost use Prim.Native.Nat.{ℕ, _+_, _*_, _≤_, _<_};
 ghost use lib.ListN.{length};
 ghost use Rattle.check_list.specs.Text.{lines, Written};
-ghost use Rattle.filter.specs.Verdicts.{SoundOf};
+ghost use Rattle.layout.specs.Verdicts.{SoundOf};
 ghost use Rattle.check_list.specs.Enough.{enough};
 ghost use Rattle.check_list.specs.Report.{numbersOf, markDue, headerDue, refused, sound, reportOf};
 ghost use Rattle.check_list.specs.Steps.{PutStep, Ready};
@@ -14,9 +14,9 @@ use filter::listing::Place;
 use filter::listing::Step;
 use filter::listing::begin;
 use filter::listing::step_from;
-use filter::numbers::Numbers;
-use filter::shape::Shape;
-use filter::shape::Shaped;
+use layout::numbers::Numbers;
+use layout::shape::Shape;
+use layout::shape::Shaped;
 
 // The largest qbits that the program takes; the sizes below follow from it.
 pub const MAX_QBITS: u8 = 9;

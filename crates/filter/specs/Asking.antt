@@ -12,8 +12,8 @@ use Rattle.theory.specs.Holding.{copies, run}
 use Rattle.theory.specs.Sound.{Holds, Checked, Quick}
 use Rattle.theory.specs.list.Seek.{seek, seek-absent, copies-run}
 use Rattle.theory.specs.check.Decides.{holds-image}
-use Rattle.filter.specs.declared.shape.Shape.{Shape}
-use Rattle.filter.specs.declared.numbers.Numbers.{Numbers}
+use Rattle.layout.specs.declared.shape.Shape.{Shape}
+use Rattle.layout.specs.declared.numbers.Numbers.{Numbers}
 use Rattle.filter.specs.declared.lookup.Seen.{Seen}
 use Rattle.filter.specs.declared.lookup.Seen.the-variants as seen
 use Rattle.filter.specs.declared.contains.Lookup.{Lookup}

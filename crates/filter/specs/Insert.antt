@@ -19,7 +19,7 @@ use Rattle.theory.specs.layout.FreeSlot.{run-before}
 use Rattle.theory.specs.layout.More.{more-holding, room}
 use Rattle.theory.specs.layout.Inserting.{Wrote, tail-was, written-image}
 use Rattle.bits.specs.declared.select.Found.the-variants.{At, Nothing}
-use Rattle.filter.specs.declared.shape.Shape.{Shape}
+use Rattle.layout.specs.declared.shape.Shape.{Shape}
 use Rattle.filter.specs.declared.insert.Insertion.{Insertion}
 use Rattle.filter.specs.declared.insert.Insertion.the-variants.{Enough, Added, Refused}
 use Rattle.filter.specs.declared.insert.Spot.{Spot}

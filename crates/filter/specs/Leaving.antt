@@ -13,7 +13,7 @@ use Rattle.theory.specs.number.Bytes.{le}
 use Rattle.theory.specs.list.Copies.{copies-le}
 use Rattle.theory.specs.list.Last.{LastOf, last-none, last-meet, last-pass, last-absent}
 use Rattle.theory.specs.layout.Block.{views}
-use Rattle.filter.specs.declared.shape.Shape.{Shape}
+use Rattle.layout.specs.declared.shape.Shape.{Shape}
 use Rattle.filter.specs.declared.remove.LastEqual.{LastEqual}
 use Rattle.filter.specs.declared.remove.LastEqual.the-variants.{At, Nothing}
 use Rattle.filter.specs.declared.remove.Place.{Place}

@@ -1,7 +1,5 @@
 pub mod Asking
-pub mod Fresh
 pub mod Insert
-pub mod Judging
 pub mod Leaving
 pub mod Listing
 pub mod Lookup
@@ -9,17 +7,11 @@ pub mod Moving
 pub mod Occupied
 pub mod Offsets
 pub mod Places
-pub mod Plans
 pub mod Reading
-pub mod Records
 pub mod Remove
 pub mod Runs
 pub mod Scan
-pub mod Shapes
 pub mod Shifted
 pub mod Spots
 pub mod Steps
-pub mod Verdicts
-pub mod Walk
-pub mod Whole
 pub mod Writing

@@ -7,15 +7,15 @@ use lib.ListN.{length}
 use Rattle.theory.specs.Sound.{Holds, Checked}
 use Rattle.theory.specs.layout.Images.{image-is}
 use Rattle.theory.specs.check.Refusals.{none-due}
-use Rattle.filter.specs.declared.numbers.Numbers.{Numbers}
-use Rattle.filter.specs.declared.shape.Shape.{Shape}
+use Rattle.layout.specs.declared.numbers.Numbers.{Numbers}
+use Rattle.layout.specs.declared.shape.Shape.{Shape}
 use Rattle.filter.specs.declared.listing.Place.{Place}
 use Rattle.filter.specs.declared.listing.Step.the-variants as step
 use Rattle.filter.specs.declared.listing.Stepped.{Stepped}
 use Rattle.filter.specs.declared.listing.Begun.{Begun}
 use Rattle.filter.specs.declared.listing.Begun.the-variants as begun
-use Rattle.filter.specs.Whole.{Whole}
-use Rattle.filter.specs.Verdicts.{lowestDue}
+use Rattle.layout.specs.Whole.{Whole}
+use Rattle.layout.specs.Verdicts.{lowestDue}
 use Rattle.filter.specs.Lookup.{Shows}
 use Rattle.filter.specs.Places.{stepped, nowhere, done, placeOf, stepOf, First, Steps}
 

@@ -17,7 +17,7 @@ use Rattle.theory.specs.list.Copies.{copies-le}
 use Rattle.theory.specs.layout.Views.{Image, many-at}
 use Rattle.theory.specs.layout.Behind.{Runs, image-runs}
 use Rattle.theory.specs.layout.RunAt.{image-run, run-few}
-use Rattle.filter.specs.declared.shape.Shape.{Shape}
+use Rattle.layout.specs.declared.shape.Shape.{Shape}
 use Rattle.filter.specs.declared.lookup.Seen.{Seen}
 use Rattle.filter.specs.declared.lookup.Seen.the-variants.{Absent}
 use Rattle.filter.specs.Runs.{RunStart}

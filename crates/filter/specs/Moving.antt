@@ -15,7 +15,7 @@ use Rattle.theory.specs.layout.Block.{views}
 use Rattle.theory.specs.layout.Rank.{last-inner, last-end, occ-zero, occ-none}
 use Rattle.theory.specs.layout.Views.{many-round}
 use Rattle.theory.specs.layout.Places.{kth, kth-is, kth-few, kth-quotient, kth-slot, kth-inner, kth-next, kth-last, kth-first, none-held, start-next, run-within, unwrap-same, unwrap-round}
-use Rattle.filter.specs.declared.shape.Shape.{Shape}
+use Rattle.layout.specs.declared.shape.Shape.{Shape}
 use Rattle.filter.specs.declared.listing.Place.{Place}
 use Rattle.filter.specs.declared.listing.Step.the-variants.{Fingerprint}
 use Rattle.filter.specs.declared.listing.Stepped.{Stepped}

@@ -14,7 +14,7 @@ use Rattle.theory.specs.Listing.{quotientAt, slotAt}
 use Rattle.theory.specs.number.Bytes.{le}
 use Rattle.theory.specs.layout.Block.{views}
 use Rattle.theory.specs.layout.Places.{Kth}
-use Rattle.filter.specs.declared.shape.Shape.{Shape}
+use Rattle.layout.specs.declared.shape.Shape.{Shape}
 use Rattle.filter.specs.declared.listing.Place.{Place}
 use Rattle.filter.specs.declared.listing.Step.{Step}
 use Rattle.filter.specs.declared.listing.Step.the-variants.{Fingerprint, Done}

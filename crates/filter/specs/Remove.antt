@@ -24,7 +24,7 @@ use Rattle.theory.specs.layout.Removing.{TookOut, taken-tail, taken-runs, remov
 use Rattle.theory.specs.layout.Sizes.{slots-blocks, fingerprint-lt}
 use Rattle.theory.specs.layout.Views.{Image, many-at}
 use Rattle.bits.specs.declared.select.Found.the-variants.{At, Nothing}
-use Rattle.filter.specs.declared.shape.Shape.{Shape}
+use Rattle.layout.specs.declared.shape.Shape.{Shape}
 use Rattle.filter.specs.declared.remove.Place.{Place}
 use Rattle.filter.specs.declared.remove.Leaving.the-variants.{Copy, NoCopy}
 use Rattle.filter.specs.declared.remove.Removal.{Removal}

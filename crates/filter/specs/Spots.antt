@@ -24,7 +24,7 @@ use Rattle.theory.specs.layout.Block.{views}
 use Rattle.theory.specs.layout.Views.{many-at}
 use Rattle.theory.specs.layout.Offsets.{carry-lt}
 use Rattle.theory.specs.layout.Sizes.{slots-blocks}
-use Rattle.filter.specs.declared.shape.Shape.{Shape}
+use Rattle.layout.specs.declared.shape.Shape.{Shape}
 use Rattle.filter.specs.declared.insert.Stop.{Stop}
 use Rattle.filter.specs.declared.insert.Stop.the-variants.{Inside, AtEnd}
 use Rattle.filter.specs.declared.insert.Spot.{Spot}

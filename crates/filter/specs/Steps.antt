@@ -13,7 +13,7 @@ use Rattle.theory.specs.layout.Images.{image-tells}
 use Rattle.theory.specs.check.Decides.{sound-dec}
 use Rattle.theory.specs.check.Promises.{checked-one}
 use denote.Ref.{now}
-use Rattle.filter.specs.declared.numbers.Numbers.{Numbers}
+use Rattle.layout.specs.declared.numbers.Numbers.{Numbers}
 use Rattle.filter.specs.declared.listing.Place.{Place}
 use Rattle.filter.specs.declared.listing.Step.{Step}
 use Rattle.filter.specs.declared.listing.Step.the-variants.{Fingerprint, Done}
@@ -22,7 +22,7 @@ use Rattle.filter.specs.declared.listing.Begun.{Begun}
 use Rattle.filter.specs.declared.listing.Begun.the-variants as begun
 use Rattle.filter.specs.declared.reader.Reader.{Reader}
 use Rattle.filter.specs.declared.reader.Two.{Two}
-use Rattle.filter.specs.Verdicts.{lowestDue, SoundOf}
+use Rattle.layout.specs.Verdicts.{lowestDue, SoundOf}
 use Rattle.filter.specs.Places.{stepped, nowhere, done, placeOf, stepOf, place-none, place-left, step-some, step-none}
 use Rattle.filter.specs.Listing.{HoldsOf, Begins, Listed, passed-whole}
 use Rattle.filter.specs.Reading.{Moved, TwoListed}

@@ -13,7 +13,7 @@ use Rattle.theory.specs.layout.Block.{tailAt}
 use Rattle.theory.specs.layout.Images.{is-image, image-tail}
 use Rattle.theory.specs.layout.Tail.{tail-bytes}
 use Rattle.theory.specs.check.Refusals.{none-due}
-use Rattle.filter.specs.declared.numbers.Numbers.{Numbers}
+use Rattle.layout.specs.declared.numbers.Numbers.{Numbers}
 use Rattle.filter.specs.declared.insert.Insertion.{Insertion}
 use Rattle.filter.specs.declared.insert.Insertion.the-variants as core
 use Rattle.filter.specs.declared.writers.Inserted.{Inserted}
@@ -23,8 +23,8 @@ use Rattle.filter.specs.declared.remove.Removal.the-variants as removal
 use Rattle.filter.specs.declared.writers.Removed.{Removed}
 use Rattle.filter.specs.declared.writers.Removed.the-variants as removed
 use Rattle.filter.specs.Asking.{CheckedOn, QuickOn, fingerprintOf, shapeOf, holds-shows}
-use Rattle.filter.specs.Verdicts.{lowestDue}
-use Rattle.filter.specs.Judging.{clear-whole}
+use Rattle.layout.specs.Verdicts.{lowestDue}
+use Rattle.layout.specs.Judging.{clear-whole}
 use Rattle.filter.specs.Lookup.{Shows}
 use Rattle.filter.specs.Insert.{InsertsCore}
 use Rattle.filter.specs.Remove.{RemovesCore}

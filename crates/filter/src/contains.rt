@@ -1,14 +1,14 @@
 // Lookup and count, checked and quick: thin shells over one core.
 ghost use mathlib.Core.Path.{_≡_};
 ghost use Rattle.filter.specs.Asking.{Contains, ContainsQuick, Count, CountQuick, lookupFrom};
-use crate::check::Verdict;
-use crate::check::check;
 use crate::lookup::Seen;
 use crate::lookup::look;
 use crate::lookup::tally;
-use crate::numbers::Numbers;
-use crate::numbers::number_due;
-use crate::shape::Shape;
+use layout::check::Verdict;
+use layout::check::check;
+use layout::numbers::Numbers;
+use layout::numbers::number_due;
+use layout::shape::Shape;
 
 // Held or not, with the number of remainders compared; or refused.
 pub enum Lookup {

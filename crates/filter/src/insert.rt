@@ -6,7 +6,7 @@ ghost use Rattle.theory.specs.Shape.{slots, blocks};
 ghost use Rattle.theory.specs.number.Bytes.{le};
 ghost use Rattle.theory.specs.layout.Block.{views};
 ghost use Rattle.theory.specs.layout.Inserting.{Wrote};
-ghost use Rattle.filter.specs.Whole.{Whole};
+ghost use Rattle.layout.specs.Whole.{Whole};
 ghost use Rattle.filter.specs.Spots.{Scanned, SpotFor, Unrolled};
 ghost use Rattle.filter.specs.Insert.{InsertsCore};
 use crate::lookup::equal;
@@ -15,10 +15,10 @@ use crate::lookup::remainder;
 use crate::runs::first_free;
 use crate::runs::larger;
 use crate::runs::run_start;
-use crate::shape::Shape;
 use crate::shift;
-use crate::slot;
 use bits::select::Found;
+use layout::shape::Shape;
+use layout::slot;
 
 // Where a scan of a run stops: the place that one copy more takes, before a larger remainder or at the run's end, and the copies met.
 pub enum Stop {

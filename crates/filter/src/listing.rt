@@ -5,19 +5,19 @@ ghost use lib.ListN.{length};
 ghost use Rattle.theory.specs.Shape.{slots, Widths};
 ghost use Rattle.theory.specs.number.Bytes.{le};
 ghost use Rattle.theory.specs.layout.Block.{views};
-ghost use Rattle.filter.specs.Whole.{Whole};
+ghost use Rattle.layout.specs.Whole.{Whole};
 ghost use Rattle.filter.specs.Listing.{Begins, Listed};
 ghost use Rattle.filter.specs.Occupied.{NextOccupied};
 ghost use Rattle.filter.specs.Places.{nowhere, done, stepped, Ends, Moves, First, Steps};
-use crate::check::Verdict;
-use crate::check::check;
-use crate::numbers::Numbers;
-use crate::numbers::number_due;
 use crate::runs::larger;
 use crate::runs::run_start;
-use crate::shape::Shape;
-use crate::slot;
 use bits::select::Found;
+use layout::check::Verdict;
+use layout::check::check;
+use layout::numbers::Numbers;
+use layout::numbers::number_due;
+use layout::shape::Shape;
+use layout::slot;
 
 // The next fingerprint's quotient, its slot and how many remain; all 0 when none do.
 #[repr(C)]

@@ -5,12 +5,12 @@ ghost use lib.ListN.{length};
 ghost use Rattle.theory.specs.Shape.{slots, fingerprint, Widths};
 ghost use Rattle.theory.specs.number.Bytes.{le};
 ghost use Rattle.theory.specs.layout.Block.{views};
-ghost use Rattle.filter.specs.Whole.{Whole};
+ghost use Rattle.layout.specs.Whole.{Whole};
 ghost use Rattle.filter.specs.Scan.{Sought, Counted};
 ghost use Rattle.filter.specs.Lookup.{Seeks, Counts};
 use crate::runs::run_start;
-use crate::shape::Shape;
-use crate::slot;
+use layout::shape::Shape;
+use layout::slot;
 
 // What a scan of a run finds: the place, from 1, of the first equal remainder, or how many there are, none of them equal.
 pub enum Seen {

@@ -4,7 +4,7 @@ ghost use Rattle.filter.specs.Reading.{Moved, TwoListed};
 use crate::listing::Place;
 use crate::listing::Step;
 use crate::listing::step_from;
-use crate::numbers::Numbers;
+use layout::numbers::Numbers;
 
 pub struct Reader<'a> {
     pub buf: &'a [u8],

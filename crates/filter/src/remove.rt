@@ -7,7 +7,7 @@ ghost use Rattle.theory.specs.number.Bytes.{le};
 ghost use Rattle.theory.specs.carry.More.{upto};
 ghost use Rattle.theory.specs.layout.Block.{views};
 ghost use Rattle.theory.specs.layout.Removing.{TookOut};
-ghost use Rattle.filter.specs.Whole.{Whole};
+ghost use Rattle.layout.specs.Whole.{Whole};
 ghost use Rattle.filter.specs.Leaving.{ToldAs, LastSeen, LeavingFor};
 ghost use Rattle.filter.specs.Shifted.{ShiftedFrom, NextCarry, Renews};
 ghost use Rattle.filter.specs.Remove.{WroteOut, RemovesCore};
@@ -17,10 +17,10 @@ use crate::lookup::remainder;
 use crate::runs::behind_run;
 use crate::runs::offset;
 use crate::runs::run_start;
-use crate::shape::Shape;
 use crate::shift;
-use crate::slot;
 use bits::select::Found;
+use layout::shape::Shape;
+use layout::slot;
 
 // What a scan of a run finds: the last equal place, from 0, and how many places the run has; or none equal.
 pub enum LastEqual {

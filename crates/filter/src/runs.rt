@@ -6,11 +6,11 @@ ghost use Rattle.theory.specs.Shape.{slots, blocks};
 ghost use Rattle.theory.specs.number.Bytes.{le};
 ghost use Rattle.theory.specs.layout.Block.{views};
 ghost use Rattle.theory.specs.layout.Ring.{ringAt};
-ghost use Rattle.filter.specs.Whole.{Whole};
+ghost use Rattle.layout.specs.Whole.{Whole};
 ghost use Rattle.filter.specs.Runs.{InWord, NthRunend, Behind, Back, OffsetOf, RunStart, RunEnd, FreeFrom};
-use crate::shape::Shape;
-use crate::slot;
 use bits::select::Found;
+use layout::shape::Shape;
+use layout::slot;
 
 // What a word says of the runend looked for: its digit, or how many are left behind the word.
 pub enum InBlock {

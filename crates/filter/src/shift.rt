@@ -7,9 +7,9 @@ ghost use Rattle.theory.specs.number.Bytes.{le};
 ghost use Rattle.theory.specs.layout.Block.{Area};
 ghost use Rattle.theory.specs.layout.PutIn.{PutIn, TakenOut};
 ghost use Rattle.theory.specs.layout.Bump.{bump};
-ghost use Rattle.filter.specs.Whole.{Whole};
-use crate::shape::Shape;
-use crate::slot;
+ghost use Rattle.layout.specs.Whole.{Whole};
+use layout::shape::Shape;
+use layout::slot;
 
 // A cell more with v in it at slot a: those from a to before e move on by one.
 pub fn put_in(buf: &mut [u8], shape: Shape, d: usize, w: u64, a: u64, e: u64, v: u64)

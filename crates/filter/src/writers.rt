@@ -1,17 +1,17 @@
 // Insert and remove, checked and quick: thin shells over one core each.
 ghost use mathlib.Core.Path.{_≡_};
-ghost use Rattle.filter.specs.Verdicts.{lowestDue};
+ghost use Rattle.layout.specs.Verdicts.{lowestDue};
 ghost use Prim.Native.Nat.{_-_};
 ghost use Rattle.filter.specs.Writing.{Insert, InsertQuick, InsertWorked, Remove, RemoveQuick, RemoveWorked};
-use crate::check::Verdict;
-use crate::check::check;
 use crate::insert::Insertion;
 use crate::insert::insert_core;
-use crate::numbers::Numbers;
-use crate::numbers::number_due;
 use crate::remove::Removal;
 use crate::remove::remove_core;
-use crate::shape::Shape;
+use layout::check::Verdict;
+use layout::check::check;
+use layout::numbers::Numbers;
+use layout::numbers::number_due;
+use layout::shape::Shape;
 
 // The answer of an insert with the record afterwards; or refused.
 pub enum Inserted {

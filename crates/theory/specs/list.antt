@@ -10,3 +10,4 @@ pub mod Scan
 pub mod Seek
 pub mod Spot
 pub mod Stream
+pub mod UpTo

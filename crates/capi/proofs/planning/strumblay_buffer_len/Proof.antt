@@ -2,8 +2,8 @@
 use mathlib.Core.Path.{ap, sym, refl, _∙_, subst}
 use mathlib.Core.Path.{_≡_}
 use Rattle.theory.specs.check.Refusals.{none-widths}
-use Rattle.filter.specs.Shapes.{ShapedAs}
-use Rattle.filter.specs.declared.shape.Shaped.the-variants.{Of}
+use Rattle.layout.specs.Shapes.{ShapedAs}
+use Rattle.layout.specs.declared.shape.Shaped.the-variants.{Of}
 use Rattle.capi.specs.Planning.{lengthOf}
 use borrow.Author.Needs.{needs}
 use Rattle.capi.proofs.planning.strumblay_buffer_len.Statement.{statement}

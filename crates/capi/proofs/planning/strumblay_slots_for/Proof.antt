@@ -3,8 +3,8 @@ use mathlib.Core.Path.{ap, sym, refl, _∙_, subst}
 use Prim.Native.Nat.{_<_, _^_, _≤_}
 use native.Mathlib.Omega.{arith}
 use mathlib.Core.Path.{_≡_}
-use Rattle.filter.specs.Plans.{NeededAs}
-use Rattle.filter.specs.declared.planning.Needed.the-variants.{Qbits}
+use Rattle.layout.specs.Plans.{NeededAs}
+use Rattle.layout.specs.declared.planning.Needed.the-variants.{Qbits}
 use Rattle.theory.specs.plan.Needed.{needed-high}
 use Rattle.capi.specs.Planning.{neededOf}
 use borrow.Author.Needs.{needs}

@@ -5,8 +5,8 @@ use native.Mathlib.Omega.{arith}
 use denote.Ref.{now}
 use Rattle.theory.specs.Refusal.{widthsDue}
 use Rattle.theory.specs.check.Refusals.{widths-none, widths-due}
-use Rattle.filter.specs.Shapes.{ShapedAs}
-use Rattle.filter.specs.declared.shape.Shaped.the-variants.{Of, Refused}
+use Rattle.layout.specs.Shapes.{ShapedAs}
+use Rattle.layout.specs.declared.shape.Shaped.the-variants.{Of, Refused}
 use Rattle.check_list.specs.Report.{numbersOf, markDue, maxQbits}
 use Rattle.check_list.specs.Asked.{none-mark, limit-due, limit-none, header-mark, header-widths, header-limit}
 use borrow.Author.Needs.{needs}

@@ -4,7 +4,7 @@ use mathlib.Core.Path.{sym, ap, _∙_}
 use lib.ListN.{getD}
 use denote.Ref.{now}
 use Rattle.theory.specs.number.Bytes.{le-part}
-use Rattle.filter.specs.declared.numbers.Numbers.{Numbers}
+use Rattle.layout.specs.declared.numbers.Numbers.{Numbers}
 use Rattle.check_list.specs.Report.{numbersOf}
 use borrow.Author.Needs.{needs}
 use Rattle.check_list.proofs.report.numbers_of.Statement.{statement}

@@ -6,9 +6,9 @@ use mathlib.Core.List.{List}
 use native.Mathlib.Omega.{arith}
 use lib.ListN.{length, take, drop, length-take, length-drop}
 use lib.Seq.{take-all}
-use Rattle.filter.specs.declared.numbers.Numbers.{Numbers}
+use Rattle.layout.specs.declared.numbers.Numbers.{Numbers}
 use Rattle.filter.specs.declared.listing.Place.{Place}
-use Rattle.filter.specs.Verdicts.{SoundOf}
+use Rattle.layout.specs.Verdicts.{SoundOf}
 use Rattle.filter.specs.Places.{placeOf, place-left}
 use Rattle.check_list.specs.Text.{lines, Written}
 use Rattle.check_list.specs.Steps.{PutStep}

@@ -12,7 +12,7 @@ use Rattle.filter.proofs.listing.Step.{the-type}
 use Rattle.filter.specs.declared.listing.Step.{Step}
 use Rattle.filter.specs.declared.listing.Step.the-variants.{Fingerprint}
 use Rattle.filter.specs.declared.listing.Stepped.{Stepped}
-use Rattle.filter.specs.Verdicts.{lowestDue}
+use Rattle.layout.specs.Verdicts.{lowestDue}
 use Rattle.filter.specs.Listing.{HoldsOf}
 use Rattle.filter.specs.Places.{stepped, placeOf, step-some}
 use Rattle.check_list.specs.Text.{line, Written}

@@ -1,10 +1,10 @@
 -- `filter::contains::contains_fingerprint`: the check's number, or the core on a sound buffer. Assumes nothing.
 use mathlib.Core.Path.{refl, subst, _∙_}
 use denote.Ref.{now}
-use Rattle.filter.specs.Verdicts.{Judged}
-use Rattle.filter.specs.Judging.{checked-refused, checked-sound, clear-whole}
+use Rattle.layout.specs.Verdicts.{Judged}
+use Rattle.layout.specs.Judging.{checked-refused, checked-sound, clear-whole}
 use Rattle.filter.specs.Asking.{looked}
-use Rattle.filter.specs.declared.check.Verdict.the-variants.{Sound, Refused}
+use Rattle.layout.specs.declared.check.Verdict.the-variants.{Sound, Refused}
 use borrow.Author.Needs.{needs}
 use Rattle.filter.proofs.contains.contains_fingerprint.Statement.{statement}
 use Rattle.filter.proofs.contains.contains_fingerprint.Tie as tie

@@ -1,8 +1,8 @@
 -- `filter::listing::begin`: the check's number, or the place of the first fingerprint. Assumes nothing.
 use mathlib.Core.Path.{refl, subst}
 use denote.Ref.{now}
-use Rattle.filter.specs.Verdicts.{Judged, SoundOf}
-use Rattle.filter.specs.Judging.{checked-refused, checked-sound}
+use Rattle.layout.specs.Verdicts.{Judged, SoundOf}
+use Rattle.layout.specs.Judging.{checked-refused, checked-sound}
 use Rattle.filter.specs.Listing.{passed-whole, begins-at}
 use borrow.Author.Needs.{needs}
 use Rattle.filter.proofs.listing.begin.Statement.{statement}

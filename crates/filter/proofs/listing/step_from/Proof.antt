@@ -2,7 +2,7 @@
 use mathlib.Core.Path.{_≡_, sym, _∙_}
 use native.Mathlib.Omega.{arith}
 use denote.Ref.{now}
-use Rattle.filter.specs.Verdicts.{lowestDue}
+use Rattle.layout.specs.Verdicts.{lowestDue}
 use Rattle.filter.specs.Listing.{listed-refused, passed-whole, listed-core}
 use borrow.Author.Needs.{needs}
 use Rattle.filter.proofs.listing.step_from.Statement.{statement}

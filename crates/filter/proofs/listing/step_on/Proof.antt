@@ -42,11 +42,11 @@ use denote.Triple.Walked.{says, Stays, stay-none, stay-none-slice, stay-ref, wal
 use denote.Exit.{yes}
 use denote.Triple.Clauses.{ensured, lasts}
 use Rattle.filter.specs.Listing.{Listed}
-use Rattle.filter.specs.declared.numbers.Numbers.{Numbers}
+use Rattle.layout.specs.declared.numbers.Numbers.{Numbers}
 use Rattle.filter.specs.declared.listing.Place.{Place}
 use Rattle.filter.specs.declared.listing.Stepped.{Stepped}
-use Rattle.filter.proofs.numbers.Numbers as N
-use Rattle.filter.proofs.numbers.Numbers.Laws as N′
+use Rattle.layout.proofs.numbers.Numbers as N
+use Rattle.layout.proofs.numbers.Numbers.Laws as N′
 use Rattle.filter.proofs.listing.Place as P
 use Rattle.filter.proofs.listing.Place.Laws as P′
 use Rattle.filter.proofs.listing.Step as E

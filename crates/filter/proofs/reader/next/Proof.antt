@@ -47,8 +47,8 @@ use Rattle.filter.specs.Listing.{Listed}
 use Rattle.filter.specs.declared.listing.Place.{Place}
 use Rattle.filter.specs.declared.reader.Reader.{Reader}
 use Rattle.filter.specs.declared.listing.Stepped.{Stepped}
-use Rattle.filter.proofs.numbers.Numbers as N
-use Rattle.filter.proofs.numbers.Numbers.Laws as N′
+use Rattle.layout.proofs.numbers.Numbers as N
+use Rattle.layout.proofs.numbers.Numbers.Laws as N′
 use Rattle.filter.proofs.listing.Place as P
 use Rattle.filter.proofs.listing.Place.Laws as P′
 use Rattle.filter.proofs.reader.Reader as T

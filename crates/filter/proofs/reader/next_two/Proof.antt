@@ -42,14 +42,14 @@ use denote.Triple.Walked.{says, Stays, stay-none, stay-none-slice, walkOf, goes-
 use denote.Exit.{yes}
 use denote.Triple.Clauses.{ensured, lasts}
 use Rattle.filter.specs.Reading.{Moved, TwoListed, two-told}
-use Rattle.filter.specs.declared.numbers.Numbers.{Numbers}
+use Rattle.layout.specs.declared.numbers.Numbers.{Numbers}
 use Rattle.filter.specs.declared.listing.Place.{Place}
 use Rattle.filter.specs.declared.reader.Reader.{Reader}
 use Rattle.filter.specs.declared.listing.Step.{Step}
 use Rattle.filter.specs.declared.reader.Two.{Two}
 use Rattle.filter.proofs.Lent.{lies-in, lies-out, lent-own, Kept, lends-local, local-back}
-use Rattle.filter.proofs.numbers.Numbers as N
-use Rattle.filter.proofs.numbers.Numbers.Laws as N′
+use Rattle.layout.proofs.numbers.Numbers as N
+use Rattle.layout.proofs.numbers.Numbers.Laws as N′
 use Rattle.filter.proofs.listing.Place as P
 use Rattle.filter.proofs.listing.Place.Laws as P′
 use Rattle.filter.proofs.reader.Reader as T

@@ -34,11 +34,11 @@ use denote.Triple.Spec.{Meets, tripleOf}
 use denote.Triple.Table.{entered}
 use denote.Triple.Walked.{says, Stays, stay-none, stay-none-slice, walkOf, goes-none, goes-none-slice, Walks, ends-at, walked, walk-meets}
 use denote.Exit.{yes}
-use Rattle.filter.specs.declared.numbers.Numbers.{Numbers}
+use Rattle.layout.specs.declared.numbers.Numbers.{Numbers}
 use Rattle.filter.specs.declared.listing.Place.{Place}
 use Rattle.filter.specs.declared.reader.Reader.{Reader}
-use Rattle.filter.proofs.numbers.Numbers as N
-use Rattle.filter.proofs.numbers.Numbers.Laws as N′
+use Rattle.layout.proofs.numbers.Numbers as N
+use Rattle.layout.proofs.numbers.Numbers.Laws as N′
 use Rattle.filter.proofs.listing.Place as P
 use Rattle.filter.proofs.listing.Place.Laws as P′
 use Rattle.filter.proofs.reader.Reader as T

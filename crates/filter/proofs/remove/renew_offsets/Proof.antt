@@ -8,7 +8,7 @@ use Rattle.theory.specs.Shape.{slots as slots-of, blocks as blocks-of}
 use Rattle.theory.specs.number.Bytes.{le}
 use Rattle.theory.specs.layout.Block.{views}
 use Rattle.theory.specs.layout.Sizes.{slots-blocks, slots-high}
-use Rattle.filter.specs.Whole.{Whole}
+use Rattle.layout.specs.Whole.{Whole}
 use Rattle.filter.specs.Shifted.{NextCarry, Renewing, renewing-none, renewing-on, renews-missed, renews-all}
 use Rattle.bits.specs.declared.select.Found.the-variants.{At}
 use borrow.Author.Needs.{needs}

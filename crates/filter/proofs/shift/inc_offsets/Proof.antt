@@ -8,7 +8,7 @@ use denote.Ref.{now}
 use Rattle.theory.specs.Shape.{blocks as blocks-of}
 use Rattle.theory.specs.number.Bytes.{le}
 use Rattle.theory.specs.layout.Bump.{bump, bump-step, bump-none}
-use Rattle.filter.specs.Whole.{Whole}
+use Rattle.layout.specs.Whole.{Whole}
 use borrow.Author.Needs.{needs}
 use Rattle.filter.proofs.shift.inc_offsets.Statement.{statement}
 use Rattle.filter.proofs.shift.inc_offsets.Tie as tie

@@ -11,7 +11,7 @@ use Rattle.theory.specs.layout.Block.{putCell}
 use Rattle.theory.specs.layout.Slide.{slideUp}
 use Rattle.theory.specs.layout.PutIn.{PutIn, up-step, up-none, put-in}
 use Rattle.theory.specs.layout.Sizes.{slots-blocks}
-use Rattle.filter.specs.Whole.{Whole}
+use Rattle.layout.specs.Whole.{Whole}
 use borrow.Author.Needs.{needs}
 use Rattle.filter.proofs.shift.put_in.Statement.{statement}
 use Rattle.filter.proofs.shift.put_in.Tie as tie

@@ -11,7 +11,7 @@ use Rattle.theory.specs.number.Bytes.{le}
 use Rattle.theory.specs.layout.Slide.{slideDown}
 use Rattle.theory.specs.layout.PutIn.{down-step, down-none, take-out}
 use Rattle.theory.specs.layout.Sizes.{slots-blocks}
-use Rattle.filter.specs.Whole.{Whole}
+use Rattle.layout.specs.Whole.{Whole}
 use borrow.Author.Needs.{needs}
 use Rattle.filter.proofs.shift.take_out.Statement.{statement}
 use Rattle.filter.proofs.shift.take_out.Tie as tie

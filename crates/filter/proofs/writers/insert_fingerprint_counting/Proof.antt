@@ -1,9 +1,9 @@
 -- `filter::writers::insert_fingerprint_counting`: the check's number, or the core on a sound buffer. Assumes nothing.
 use mathlib.Core.Path.{refl, subst}
 use denote.Ref.{now}
-use Rattle.filter.specs.Verdicts.{Judged}
-use Rattle.filter.specs.Judging.{checked-refused, checked-sound}
-use Rattle.filter.specs.declared.check.Verdict.the-variants.{Sound, Refused}
+use Rattle.layout.specs.Verdicts.{Judged}
+use Rattle.layout.specs.Judging.{checked-refused, checked-sound}
+use Rattle.layout.specs.declared.check.Verdict.the-variants.{Sound, Refused}
 use borrow.Author.Needs.{needs}
 use Rattle.filter.proofs.writers.insert_fingerprint_counting.Statement.{statement}
 use Rattle.filter.proofs.writers.insert_fingerprint_counting.Tie as tie

@@ -5,7 +5,7 @@ use native.Mathlib.Omega.{arith}
 use denote.Ref.{now}
 use Rattle.theory.specs.check.Refusals.{none-due}
 use Rattle.theory.specs.layout.Sizes.{slots-high}
-use Rattle.filter.specs.Judging.{clear-whole}
+use Rattle.layout.specs.Judging.{clear-whole}
 use Rattle.filter.specs.declared.insert.Insertion.{Insertion}
 use Rattle.filter.specs.Writing.{InsertWorked, insertedFrom, insert-worked}
 use borrow.Author.Needs.{needs}

@@ -3,8 +3,8 @@ use Prim.Native.Nat.{_<_}
 use mathlib.Core.Path.{_≡_, refl, sym, _∙_}
 use native.Mathlib.Omega.{arith}
 use denote.Ref.{now}
-use Rattle.filter.specs.Verdicts.{lowestDue}
-use Rattle.filter.specs.Judging.{quick-refused, quick-worked}
+use Rattle.layout.specs.Verdicts.{lowestDue}
+use Rattle.layout.specs.Judging.{quick-refused, quick-worked}
 use Rattle.filter.specs.Writing.{inside-same}
 use borrow.Author.Needs.{needs}
 use Rattle.filter.proofs.writers.remove_fingerprint_quick.Statement.{statement}

@@ -3,7 +3,7 @@ use Prim.Native.Nat.{_+_}
 use mathlib.Core.Path.{_≡_, subst, ap, _∙_, sym}
 use native.Mathlib.Omega.{arith}
 use denote.Ref.{now}
-use Rattle.filter.specs.Judging.{clear-whole}
+use Rattle.layout.specs.Judging.{clear-whole}
 use Rattle.filter.specs.declared.remove.Removal.{Removal}
 use Rattle.filter.specs.declared.writers.Removed.the-variants.{Gone}
 use Rattle.filter.specs.Writing.{RemoveWorked, withLen, removedFrom, remove-worked}

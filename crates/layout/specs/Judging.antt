@@ -1,0 +1,79 @@
+-- What follows of a verdict: the check's answer is one, it pins the verdict down, and it is what a checked call needs. Assumes nothing.
+use Prim.Native.Nat.{ℕ, _+_, _<_}
+use mathlib.Core.Path.{_≡_, refl, sym, ap, subst, _∙_}
+use mathlib.Core.Logic.{inl, inr}
+use mathlib.Core.List.{List}
+use native.Mathlib.Omega.{arith}
+use lib.ListN.{length}
+use Rattle.theory.specs.Shape.{blocks}
+use Rattle.theory.specs.Sound.{Holds, Checked, Quick}
+use Rattle.theory.specs.number.Bytes.{Bytes}
+use Rattle.theory.specs.check.Step.{Cursor, begin, Answer}
+use Rattle.theory.specs.check.Buffer.{stepsOn}
+use Rattle.theory.specs.check.Decides.{answer-holds, holds-answer}
+use Rattle.theory.specs.check.Refusals.{none-due}
+use Rattle.layout.specs.declared.numbers.Numbers.{Numbers}
+use Rattle.layout.specs.declared.check.Verdict.{Verdict}
+use Rattle.layout.specs.declared.check.Verdict.the-variants.{Sound, Refused}
+use Rattle.layout.specs.Whole.{Whole}
+use Rattle.layout.specs.Verdicts.{lowestDue, Judged, Answered}
+
+-- what the cursor says after two rounds from the beginning is the verdict
+module _ (n : Numbers) (s : List ℕ) (b : Bytes s) (e : lowestDue n s ≡ 0) (k : ℕ) (c₀ c : Cursor)
+    (two : k ≡ blocks (n .qbits) + blocks (n .qbits)) (from : c₀ ≡ begin) (is : c ≡ stepsOn (n .qbits) (n .rbits) s k c₀) where
+  whole : c ≡ stepsOn (n .qbits) (n .rbits) s (blocks (n .qbits) + blocks (n .qbits)) begin
+  whole = rw (two, from) at is
+
+  pub judged : (v : Verdict) → Answered (blocks (n .qbits)) (n .len) c v → Judged n s v
+  judged Sound a =
+      let d = none-due (n .qbits) (n .rbits) (n .len) (n .«max_qbits») (length s) e in
+      let p = answer-holds (n .qbits) (n .rbits) (n .len) (d .widths) s b (d .size-is) (d .fewer) (subst (Answer (blocks (n .qbits)) (n .len)) whole a) in
+      record { none = e; held = p .0; holds = p .1 }
+  judged (Refused j) a =
+      let d = none-due (n .qbits) (n .rbits) (n .len) (n .«max_qbits») (length s) e in
+      inr (e, (λ h. a .0 (subst (Answer (blocks (n .qbits)) (n .len)) (sym whole) (holds-answer (n .qbits) (n .rbits) (n .len) (d .widths) s (h .held) (h .holds)))), a .1)
+
+-- the promise determines the verdict
+pub judged-one : (n : Numbers) (s : List ℕ) (v w : Verdict) → Judged n s v → Judged n s w → v ≡ w
+judged-one n s Sound Sound a b = refl
+judged-one n s Sound (Refused k) a (inl p) = absurd (omega (arith, a .none))
+judged-one n s Sound (Refused k) a (inr p) = absurd (p .1 a)
+judged-one n s (Refused j) Sound (inl p) b = absurd (omega (arith, b .none))
+judged-one n s (Refused j) Sound (inr p) b = absurd (p .1 b)
+judged-one n s (Refused j) (Refused k) (inl p) (inl p′) = ap Refused (p .1 ∙ sym (p′ .1))
+judged-one n s (Refused j) (Refused k) (inl p) (inr p′) = absurd (omega arith)
+judged-one n s (Refused j) (Refused k) (inr p) (inl p′) = absurd (omega arith)
+judged-one n s (Refused j) (Refused k) (inr p) (inr p′) = ap Refused (p .2 ∙ sym (p′ .2))
+
+-- a checked call that begins with the check: refuse its number, or do what is right for the list held
+module _ (n : Numbers) (s : List ℕ) (refused : ℕ → Type 0) (right : List ℕ → Type 0) where
+  pub checked-refused : (k : ℕ) → Judged n s (Refused k) → refused k → Checked (n .qbits) (n .rbits) (n .len) (n .«max_qbits») s refused right
+  checked-refused k (inl p) x = record {
+    early = λ h. subst refused (p .1) x;
+    damaged = λ e h. absurd (omega arith);
+    sound = λ e l h. absurd (omega arith);
+  }
+  checked-refused k (inr p) x = record {
+    early = λ h. absurd (omega arith);
+    damaged = λ e h. subst refused (p .2) x;
+    sound = λ e l h. absurd (p .1 (record { none = e; held = l; holds = h }));
+  }
+
+  pub checked-sound : Judged n s Sound → ((l : List ℕ) → Holds (n .qbits) (n .rbits) (n .len) s l → right l)
+      → Checked (n .qbits) (n .rbits) (n .len) (n .«max_qbits») s refused right
+  checked-sound a f = record { early = λ h. absurd (omega (arith, a .none)); damaged = λ e h. absurd (h a); sound = λ e l h. f l h }
+
+-- a quick call that asks 1 to 5: refuse the number, or work
+module _ (n : Numbers) (s : List ℕ) (refused : ℕ → Type 0) (right : List ℕ → Type 0) (left : Type 0) where
+  pub quick-refused : (k : ℕ) → k ≡ lowestDue n s → 0 < k → refused k → left → Quick (n .qbits) (n .rbits) (n .len) (n .«max_qbits») s refused right left
+  quick-refused k e p x y = record { early = λ h. subst refused e x; sound = λ z l h. absurd (omega arith); other = y }
+
+  pub quick-worked : lowestDue n s ≡ 0 → ((l : List ℕ) → Holds (n .qbits) (n .rbits) (n .len) s l → right l) → left
+      → Quick (n .qbits) (n .rbits) (n .len) (n .«max_qbits») s refused right left
+  quick-worked e f y = record { early = λ h. absurd (omega arith); sound = λ z l h. f l h; other = y }
+
+-- where none of 1 to 5 is due, the widths are allowed and the buffer is whole
+pub clear-whole : (n : Numbers) (s : List ℕ) → lowestDue n s ≡ 0 → Whole (record { qbits = n .qbits; rbits = n .rbits }) (length s)
+clear-whole n s e =
+    let d = none-due (n .qbits) (n .rbits) (n .len) (n .«max_qbits») (length s) e in
+    record { widths = d .widths; fits = d .size-is }

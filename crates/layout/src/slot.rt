@@ -1,0 +1,111 @@
+// One cell of a slot: its occupied bit, its runend bit or its remainder. All three are numbers of w digits, packed from byte d of the block on.
+ghost use mathlib.Core.Path.{_≡_};
+ghost use Prim.Native.Nat.{ℕ, _+_, _*_, _^_, _<_, _≤_};
+ghost use lib.ListN.{length};
+ghost use Rattle.theory.specs.Shape.{slots, blocks, bytes, Widths};
+ghost use Rattle.theory.specs.number.Bytes.{le};
+ghost use Rattle.theory.specs.number.Field.{put};
+ghost use Rattle.theory.specs.layout.Block.{block, Area, cellAt, putCell, wordAt, offsetAt};
+ghost use Rattle.layout.specs.Whole.{Whole};
+use crate::shape::Shape;
+
+// Where the areas of a block begin.
+pub const OCCUPIEDS: usize = 1;
+
+pub const RUNENDS: usize = 9;
+
+pub const REMAINDERS: usize = 17;
+
+// The first byte of block b.
+pub fn block_start(shape: Shape, b: u64) -> usize
+    requires { ⌜ (Widths (shape .qbits) (shape .rbits)) × (b < blocks (shape .qbits)) ⌝ }
+    ensures { λ r. ⌜ (r ≡ block (shape .rbits) b) × (r + 17 + 8 * shape .rbits + 8 ≤ bytes (shape .qbits) (shape .rbits)) ⌝ }
+{
+    (b as usize) * shape.block_len()
+}
+
+pub fn get_cell(buf: &[u8], shape: Shape, d: usize, w: u64, s: u64) -> u64
+    requires { ⌜ (Whole shape (length (now buf))) × (Area (shape .rbits) d w) × (w ≤ 58) × (s < slots (shape .qbits)) ⌝ }
+    ensures { λ r. ⌜ (r ≡ cellAt (shape .rbits) d w (le (now (buf .entry))) s) × (r < 2 ^ w) ⌝ }
+{
+    bits::remainder::get_remainder(buf, block_start(shape, s / 64) + d, s % 64, w)
+}
+
+pub fn set_cell(buf: &mut [u8], shape: Shape, d: usize, w: u64, s: u64, v: u64)
+    requires { ⌜ (Whole shape (length (now buf))) × (Area (shape .rbits) d w) × (w ≤ 58) × (s < slots (shape .qbits)) × (v < 2 ^ w) ⌝ }
+    ensures { λ r. ⌜ le (now (buf .exit)) ≡ putCell (shape .rbits) d w (le (now (buf .entry))) s v ⌝ }
+{
+    bits::remainder::set_remainder(buf, block_start(shape, s / 64) + d, s % 64, w, v);
+}
+
+pub fn is_occupied(buf: &[u8], shape: Shape, s: u64) -> u64
+    requires { ⌜ (Whole shape (length (now buf))) × (s < slots (shape .qbits)) ⌝ }
+    ensures { λ r. ⌜ (r ≡ cellAt (shape .rbits) 1 1 (le (now (buf .entry))) s) × (r < 2) ⌝ }
+{
+    get_cell(buf, shape, OCCUPIEDS, 1, s)
+}
+
+pub fn is_runend(buf: &[u8], shape: Shape, s: u64) -> u64
+    requires { ⌜ (Whole shape (length (now buf))) × (s < slots (shape .qbits)) ⌝ }
+    ensures { λ r. ⌜ (r ≡ cellAt (shape .rbits) 9 1 (le (now (buf .entry))) s) × (r < 2) ⌝ }
+{
+    get_cell(buf, shape, RUNENDS, 1, s)
+}
+
+pub fn get_remainder(buf: &[u8], shape: Shape, s: u64) -> u64
+    requires { ⌜ (Whole shape (length (now buf))) × (s < slots (shape .qbits)) ⌝ }
+    ensures { λ r. ⌜ (r ≡ cellAt (shape .rbits) 17 (shape .rbits) (le (now (buf .entry))) s) × (r < 2 ^ shape .rbits) ⌝ }
+{
+    get_cell(buf, shape, REMAINDERS, shape.rbits as u64, s)
+}
+
+pub fn set_occupied(buf: &mut [u8], shape: Shape, s: u64, v: u64)
+    requires { ⌜ (Whole shape (length (now buf))) × (s < slots (shape .qbits)) × (v < 2) ⌝ }
+    ensures { λ r. ⌜ le (now (buf .exit)) ≡ putCell (shape .rbits) 1 1 (le (now (buf .entry))) s v ⌝ }
+{
+    set_cell(buf, shape, OCCUPIEDS, 1, s, v);
+}
+
+pub fn set_runend(buf: &mut [u8], shape: Shape, s: u64, v: u64)
+    requires { ⌜ (Whole shape (length (now buf))) × (s < slots (shape .qbits)) × (v < 2) ⌝ }
+    ensures { λ r. ⌜ le (now (buf .exit)) ≡ putCell (shape .rbits) 9 1 (le (now (buf .entry))) s v ⌝ }
+{
+    set_cell(buf, shape, RUNENDS, 1, s, v);
+}
+
+pub fn set_remainder(buf: &mut [u8], shape: Shape, s: u64, v: u64)
+    requires { ⌜ (Whole shape (length (now buf))) × (s < slots (shape .qbits)) × (v < 2 ^ shape .rbits) ⌝ }
+    ensures { λ r. ⌜ le (now (buf .exit)) ≡ putCell (shape .rbits) 17 (shape .rbits) (le (now (buf .entry))) s v ⌝ }
+{
+    set_cell(buf, shape, REMAINDERS, shape.rbits as u64, s, v);
+}
+
+// The 64 occupied bits of block b, and its runend bits.
+pub fn occupieds(buf: &[u8], shape: Shape, b: u64) -> u64
+    requires { ⌜ (Whole shape (length (now buf))) × (b < blocks (shape .qbits)) ⌝ }
+    ensures { λ r. ⌜ r ≡ wordAt (shape .rbits) 1 (le (now (buf .entry))) b ⌝ }
+{
+    bits::word::read64(buf, block_start(shape, b) + OCCUPIEDS)
+}
+
+pub fn runends(buf: &[u8], shape: Shape, b: u64) -> u64
+    requires { ⌜ (Whole shape (length (now buf))) × (b < blocks (shape .qbits)) ⌝ }
+    ensures { λ r. ⌜ r ≡ wordAt (shape .rbits) 9 (le (now (buf .entry))) b ⌝ }
+{
+    bits::word::read64(buf, block_start(shape, b) + RUNENDS)
+}
+
+// The offset byte of block b.
+pub fn offset_byte(buf: &[u8], shape: Shape, b: u64) -> u64
+    requires { ⌜ (Whole shape (length (now buf))) × (b < blocks (shape .qbits)) ⌝ }
+    ensures { λ r. ⌜ (r ≡ offsetAt (shape .rbits) (le (now (buf .entry))) b) × (r < 256) ⌝ }
+{
+    bits::word::read8(buf, block_start(shape, b))
+}
+
+pub fn set_offset_byte(buf: &mut [u8], shape: Shape, b: u64, v: u64)
+    requires { ⌜ (Whole shape (length (now buf))) × (b < blocks (shape .qbits)) × (v < 256) ⌝ }
+    ensures { λ r. ⌜ le (now (buf .exit)) ≡ put (le (now (buf .entry))) (8 * block (shape .rbits) b) 8 v ⌝ }
+{
+    bits::word::write8(buf, block_start(shape, b), v);
+}
