@@ -193,8 +193,8 @@ limit-fits n s e =
     choose-by (λ z. (n .qbits ≤ z) × (z ≤ 59) × (z < n .qbits + n .rbits)) (ℕ-discrete (n .«max_qbits») 0)
     (λ _. (omega arith, c .widths .high, omega (arith, c .widths .some)))
     (λ h.
-        let m = max-fits (n .qbits) (n .rbits) (n .«max_qbits») (c .max-none) h in
-        (m .0, m .1, omega (arith, m .2, c .widths .some)))
+    let m = max-fits (n .qbits) (n .rbits) (n .«max_qbits») (c .max-none) h in
+    (m .0, m .1, omega (arith, m .2, c .widths .some)))
 
 pub few : (n : Numbers) (s : List ℕ) → lowestDue n s ≡ 0 → n .len < 2 ^ 60
 few n s e =
