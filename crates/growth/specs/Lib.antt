@@ -1,5 +1,9 @@
 pub mod Adding
+pub mod Beyond
+pub mod Both
 pub mod Counting
+pub mod Equal
+pub mod Limits
 pub mod Merging
 pub mod Rebuilding
 pub mod Take

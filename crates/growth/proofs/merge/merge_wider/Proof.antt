@@ -4,7 +4,8 @@ use native.Mathlib.Omega.{arith}
 use lib.ListN.{length}
 use denote.Ref.{now}
 use Rattle.layout.specs.Judging.{clear-whole}
-use Rattle.growth.specs.Merging.{few, wider-seven, wider-twelve, wider-built}
+use Rattle.growth.specs.Limits.{few}
+use Rattle.growth.specs.Beyond.{wider-seven, wider-twelve, wider-built}
 use borrow.Author.Needs.{needs}
 use Rattle.growth.proofs.merge.merge_wider.Statement.{statement}
 use Rattle.growth.proofs.merge.merge_wider.Tie as tie
