@@ -28,6 +28,7 @@ mod seed;
 mod sequence;
 mod smallest;
 mod subject;
+mod vectors;
 mod wrong;
 
 use drivers::Effort;
@@ -40,18 +41,20 @@ const LONG: u64 = 10;
 struct Options {
     effort: Effort,
     bench: bool,
+    vectors: bool,
     only: Option<String>,
 }
 
 fn options() -> Options {
     let effort = Effort { seed: seed::SEED, times: 1 };
-    let mut options = Options { effort, bench: false, only: None };
+    let mut options = Options { effort, bench: false, vectors: false, only: None };
     let mut arguments = std::env::args().skip(1);
     while let Some(argument) = arguments.next() {
         match argument.as_str() {
             "short" => options.effort.times = 1,
             "long" => options.effort.times = LONG,
             "bench" => options.bench = true,
+            "vectors" => options.vectors = true,
             "--only" => options.only = arguments.next(),
             "--seed" => {
                 let seed = arguments.next().and_then(|seed| seed.parse().ok());
@@ -79,7 +82,10 @@ fn parts() -> String {
 }
 
 fn main() {
-    let Options { effort, bench, only } = options();
+    let Options { effort, bench, vectors, only } = options();
+    if vectors {
+        return vectors::write();
+    }
     if bench {
         return measure(effort.seed, only.as_deref());
     }

@@ -6,7 +6,7 @@ mod examples;
 mod growth;
 mod inputs;
 mod merges;
-mod planning;
+pub mod planning;
 mod program;
 mod reads;
 mod select;
@@ -50,6 +50,7 @@ pub const ALL: &[Driver] = &[
     ("growth", growth::drive),
     ("merges", merges::drive),
     ("program", program::drive),
+    ("vectors", |_| crate::vectors::compare()),
     #[cfg(feature = "proved-foundation")]
     ("lengths", lengths::drive),
     #[cfg(feature = "proved-check")]

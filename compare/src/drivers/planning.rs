@@ -178,7 +178,7 @@ fn plan_of(filter: qfilter::Filter) -> Plan {
     plan
 }
 
-fn from_original(specs: qfilter::FilterSpecs) -> Specs {
+pub fn from_original(specs: qfilter::FilterSpecs) -> Specs {
     Specs {
         max_capacity: specs.max_capacity,
         max_error_ratio: specs.max_error_ratio,

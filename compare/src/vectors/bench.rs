@@ -1,0 +1,314 @@
+//! What `crates/vectors` keeps between its calls, with the original in the place of the proved
+//! code: each call's line of the list, and the line that answers it.
+
+use crate::model::planning::{Plan, Specs};
+use crate::model::{self, Filter, Numbers, Place, planning};
+use crate::original::{number_of, numbers_of};
+use std::fmt::Write;
+
+/// The bytes of each buffer.
+pub const ROOM: usize = 4096;
+
+/// A letter and three numbers.
+#[derive(Clone, Copy)]
+pub struct Line(pub char, pub u64, pub u64, pub u64);
+
+/// A record, and how much of its buffer is lent.
+struct Lent {
+    numbers: Numbers,
+    size: u64,
+    room: Vec<u8>,
+}
+
+/// A listing: what it gives, every place, and how far it is.
+#[derive(Default)]
+struct Listing {
+    fingerprints: Vec<u64>,
+    places: Vec<Place>,
+    at: usize,
+}
+
+pub struct Bench {
+    own: Lent,
+    other: Lent,
+    dest: Lent,
+    listing: Listing,
+    /// The list and its answers.
+    pub script: String,
+    pub answers: String,
+}
+
+/// Widths as the list has them.
+pub fn widths(qbits: u8, rbits: u8, max_qbits: u8) -> u64 {
+    u64::from_be_bytes([0, 0, 0, 0, 0, qbits, rbits, max_qbits])
+}
+
+fn numbers(len: u64, widths: u64) -> Numbers {
+    let [.., qbits, rbits, max_qbits] = widths.to_be_bytes();
+    Numbers { len, qbits, rbits, max_qbits }
+}
+
+impl Lent {
+    fn new() -> Lent {
+        Lent { numbers: Numbers::default(), size: 0, room: vec![0; ROOM] }
+    }
+
+    fn bytes(&self) -> &[u8] {
+        &self.room[..self.size as usize]
+    }
+
+    /// The filter, or the lowest of 1 to 6.
+    fn check(&self) -> Result<Filter, u64> {
+        model::check(self.numbers, self.bytes())
+    }
+
+    fn original(&self) -> qfilter::Filter {
+        let n = self.numbers;
+        qfilter::Filter::from_parts(self.bytes(), n.len, n.qbits, n.rbits, n.max_qbits)
+    }
+
+    /// Becomes the original's filter, or gives 12.
+    fn take(&mut self, filter: &qfilter::Filter) -> Result<(), u64> {
+        if filter.buffer().len() as u64 != self.size {
+            return Err(12);
+        }
+        self.numbers = numbers_of(filter);
+        self.room[..self.size as usize].copy_from_slice(filter.buffer());
+        Ok(())
+    }
+
+    /// The bytes as a number in base 257, modulo a prime.
+    fn sum(&self) -> u64 {
+        self.bytes().iter().fold(1, |sum, &byte| (sum * 257 + u64::from(byte)) % 4294967291)
+    }
+}
+
+impl Bench {
+    pub fn new() -> Bench {
+        Bench {
+            own: Lent::new(),
+            other: Lent::new(),
+            dest: Lent::new(),
+            listing: Listing::default(),
+            script: String::new(),
+            answers: String::new(),
+        }
+    }
+
+    /// The filter that the calls are on, if it is one.
+    pub fn filter(&self) -> Filter {
+        self.own.check().expect("a sound filter")
+    }
+
+    pub fn call(&mut self, line: Line) {
+        let Line(kind, x, y, z) = line;
+        let answer = self.answer(line).unwrap_or_else(|number| format!("refused {number}"));
+        writeln!(self.script, "{kind} {x:x} {y:x} {z:x}").expect("memory");
+        let after = match kind {
+            'f' | 'i' | 'I' | 'm' | 'M' | 'a' | 'x' | 'b' => {
+                format!(" {} {:08x}", self.own.numbers.len, self.own.sum())
+            }
+            'g' | 'j' => format!(" {:08x}", self.dest.sum()),
+            's' | 'S' => self.listing.place(),
+            _ => String::new(),
+        };
+        writeln!(self.answers, "{answer}{after}").expect("memory");
+    }
+
+    fn answer(&mut self, Line(kind, x, y, z): Line) -> Result<String, u64> {
+        match kind {
+            'e' => Ok(select(x, y)),
+            'q' => slots(x),
+            't' => specs(x, f64::from_bits(y)),
+            'w' => plan(x, y, f64::from_bits(z)),
+            'k' => self.own.check().map(|_| "sound".into()),
+            'c' | 'C' => self.contains(kind, x),
+            'n' | 'N' => self.count(kind, x),
+            'l' => self.begin(),
+            's' => self.step(),
+            'S' => Ok(format!("{} {}", self.step()?, self.step()?)),
+            'f' => self.fresh(x, y),
+            'i' | 'I' => self.insert(kind, x, y),
+            'm' | 'M' => self.remove(kind, x),
+            'a' | 'x' => self.many(kind, x, y, z),
+            'b' => Ok(self.damage(x, y)),
+            'g' => self.grow(x),
+            'j' => self.merge(x, y),
+            _ => Ok(self.arrange(kind, x, y, z)),
+        }
+    }
+
+    /// The filter for a call; a quick one is never asked where number 6 is due.
+    fn sound(&self, kind: char) -> Result<Filter, u64> {
+        let sound = self.own.check();
+        assert!(sound != Err(6) || kind.is_lowercase(), "no answer is fixed there");
+        sound
+    }
+
+    fn contains(&self, kind: char, hash: u64) -> Result<String, u64> {
+        let (held, compared) = self.sound(kind)?.contains(hash);
+        assert_eq!(self.own.original().contains_fingerprint(hash), held);
+        Ok(format!("{} {compared}", if held { "held" } else { "absent" }))
+    }
+
+    fn count(&self, kind: char, hash: u64) -> Result<String, u64> {
+        self.sound(kind)?;
+        Ok(format!("copies {}", self.own.original().count_fingerprint(hash)))
+    }
+
+    fn insert(&mut self, kind: char, hash: u64, max_count: u64) -> Result<String, u64> {
+        self.sound(kind)?;
+        let mut filter = self.own.original();
+        let count = filter.insert_without_growth(max_count, hash).map_err(number_of)?;
+        self.own.take(&filter)?;
+        Ok(format!("counted {count}"))
+    }
+
+    fn remove(&mut self, kind: char, hash: u64) -> Result<String, u64> {
+        self.sound(kind)?;
+        let mut filter = self.own.original();
+        let gone = filter.remove_fingerprint(hash);
+        self.own.take(&filter)?;
+        Ok(if gone { "gone" } else { "absent" }.into())
+    }
+
+    fn many(&mut self, kind: char, hash: u64, step: u64, times: u64) -> Result<String, u64> {
+        for i in 0..times {
+            let hash = hash.wrapping_add(step.wrapping_mul(i));
+            // A refusal among many is passed over.
+            let _ =
+                if kind == 'a' { self.insert('I', hash, u64::MAX) } else { self.remove('M', hash) };
+        }
+        Ok("many".into())
+    }
+
+    fn fresh(&mut self, size: u64, widths: u64) -> Result<String, u64> {
+        self.own.size = size;
+        let n = numbers(0, widths);
+        self.own.numbers = model::fresh(n.qbits, n.rbits, n.max_qbits, size)?;
+        self.own.room[..size as usize].fill(0);
+        Ok("fresh".into())
+    }
+
+    fn damage(&mut self, at: u64, byte: u64) -> String {
+        self.own.room[at as usize] = byte as u8;
+        "byte".into()
+    }
+
+    fn grow(&mut self, size: u64) -> Result<String, u64> {
+        self.dest.size = size;
+        self.own.check()?;
+        let grown = self.own.original().grown().map_err(number_of)?;
+        self.rebuilt(&grown)
+    }
+
+    fn merge(&mut self, size: u64, keep: u64) -> Result<String, u64> {
+        self.dest.size = size;
+        self.own.check()?;
+        self.other.check()?;
+        let mut merged = self.own.original();
+        merged.merge(keep != 0, &self.other.original()).map_err(number_of)?;
+        self.rebuilt(&merged)
+    }
+
+    fn rebuilt(&mut self, filter: &qfilter::Filter) -> Result<String, u64> {
+        self.dest.take(filter)?;
+        let n = self.dest.numbers;
+        Ok(format!("filter {} {} {} {}", n.len, n.qbits, n.rbits, n.max_qbits))
+    }
+
+    /// What calls nothing: a record given, and buffers that change places.
+    fn arrange(&mut self, kind: char, x: u64, y: u64, z: u64) -> String {
+        match kind {
+            'r' => (self.own.numbers, self.own.size) = (numbers(x, y), z),
+            'o' => std::mem::swap(&mut self.own, &mut self.other),
+            'd' => std::mem::swap(&mut self.own, &mut self.dest),
+            _ => panic!("no call {kind}"),
+        }
+        if kind == 'r' { "record" } else { "swapped" }.into()
+    }
+}
+
+/// The listing, by the original's own iterator.
+impl Bench {
+    fn begin(&mut self) -> Result<String, u64> {
+        self.own.check()?;
+        self.listing = Listing::of(&self.own.original());
+        Ok(format!("at{}", self.listing.place()))
+    }
+
+    fn step(&mut self) -> Result<String, u64> {
+        model::due_before_image(self.own.numbers, self.own.bytes().len() as u64)?;
+        let Listing { fingerprints, at, .. } = &mut self.listing;
+        let Some(fingerprint) = fingerprints.get(*at) else {
+            return Ok("done".into());
+        };
+        *at += 1;
+        Ok(format!("fingerprint {fingerprint:016x}"))
+    }
+}
+
+impl Listing {
+    fn of(filter: &qfilter::Filter) -> Listing {
+        let mut listing = Listing::default();
+        let mut iter = filter.fingerprints();
+        loop {
+            let (quotient, slot, remaining) = iter.place();
+            let Some(fingerprint) = iter.next() else { break };
+            listing.fingerprints.push(fingerprint);
+            listing.places.push(Place { quotient, slot, remaining });
+        }
+        listing
+    }
+
+    /// Where the original's iterator stands; at the end document 01 has all 0.
+    fn place(&self) -> String {
+        let Place { quotient, slot, remaining } =
+            self.places.get(self.at).copied().unwrap_or_default();
+        format!(" {quotient} {slot} {remaining}")
+    }
+}
+
+fn select(word: u64, n: u64) -> String {
+    let found = model::select(word, n);
+    // From 64 on the original departs from its own comment.
+    assert!(n >= 64 || qfilter::Filter::word_select(word, n) == found);
+    found.map_or("nothing".into(), |place| format!("at {place}"))
+}
+
+fn slots(capacity: u64) -> Result<String, u64> {
+    let slots = qfilter::Filter::needed_slots(capacity).map_err(number_of)?;
+    Ok(format!("qbits {}", slots.ilog2()))
+}
+
+/// The original's specs; document 01's must be the same.
+fn specs(capacity: u64, rate: f64) -> Result<String, u64> {
+    let got = qfilter::filter_specs(capacity, rate).map_err(number_of);
+    let right = planning::filter_specs(capacity, rate);
+    let shown = |s: Specs| {
+        format!(
+            "specs {} {} {} {} {:016x} {:016x}",
+            s.max_capacity,
+            s.fingerprint_bits,
+            s.memory_bytes_min,
+            s.memory_bytes_max,
+            s.max_error_ratio.to_bits(),
+            s.bits_per_item.to_bits()
+        )
+    };
+    let got = got.map(crate::drivers::planning::from_original).map(shown);
+    assert_eq!(got, right.map(shown), "a rate where log2 rounds");
+    got
+}
+
+/// The original's plan, unless it asserts or its buffer is too large to make.
+fn plan(initial: u64, max: u64, rate: f64) -> Result<String, u64> {
+    let right = planning::plan(initial, max, rate);
+    if max >= initial && right.is_ok_and(|plan| plan.qbits < 20) {
+        let filter = qfilter::Filter::new_resizeable(initial, max, rate).map_err(number_of);
+        let n = filter.map(|filter| numbers_of(&filter))?;
+        let Numbers { qbits, rbits, max_qbits, .. } = n;
+        assert_eq!(Ok(Plan { qbits, rbits, max_qbits }), right);
+    }
+    right.map(|plan| format!("widths {} {} {}", plan.qbits, plan.rbits, plan.max_qbits))
+}

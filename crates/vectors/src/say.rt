@@ -1,0 +1,68 @@
+// The parts of an answer's line.
+ghost use Prim.Native.Nat.{_<_};
+use crate::bench::part;
+use filter::listing::Place;
+use layout::numbers::Numbers;
+
+pub fn word(text: &[u8]) {
+    io::write_all(1, text);
+}
+
+pub fn number(n: u64) {
+    io::write_all(1, b" ");
+    io::print_decimal(1, n);
+}
+
+pub fn hex(n: u64, digits: usize) {
+    io::write_all(1, b" ");
+    io::print_hex(1, n, digits);
+}
+
+pub fn end() {
+    io::write_all(1, b"\n");
+}
+
+pub fn refused(k: u8) {
+    word(b"refused");
+    number(k as u64);
+}
+
+pub fn widths(n: Numbers) {
+    number(n.qbits as u64);
+    number(n.rbits as u64);
+    number(n.max_qbits as u64);
+}
+
+pub fn place(p: Place) {
+    number(p.quotient);
+    number(p.slot);
+    number(p.remaining);
+}
+
+// The bit pattern of a float.
+pub fn float(x: f64) {
+    if x == x {
+        hex(f64::to_bits(x), 16);
+    } else {
+        word(b" nan");
+    }
+}
+
+// The bytes as a number in base 257, modulo the largest prime below 2 ^ 32: no byte changes alone without the sum.
+fn sum_of(buf: &[u8]) -> u64
+    ensures { λ r. ⌜ r < 4294967291 ⌝ }
+{
+    let mut sum: u64 = 1;
+    let mut i = 0;
+    while i < buf.len() {
+        sum = (sum * 257 + (buf[i] as u64)) % 4294967291;
+        i += 1;
+    }
+    sum
+}
+
+// The sum of the part that is lent.
+pub fn sum(size: u64, room: &[u8]) {
+    let end = part(size, room);
+    hex(sum_of(&room[..end]), 8);
+}
