@@ -4,6 +4,7 @@ pub mod Both
 pub mod Counting
 pub mod Equal
 pub mod Limits
+pub mod Merged
 pub mod Merging
 pub mod Rebuilding
 pub mod Take
