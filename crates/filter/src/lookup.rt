@@ -65,7 +65,12 @@ pub fn look(buf: &[u8], shape: Shape, hash: u64) -> Seen
     if slot::is_occupied(buf, shape, x) == 0 {
         return Seen::Absent(0);
     }
-    seek(buf, shape, run_start(&*buf, shape, x), remainder(shape, hash))
+    seek(
+        buf,
+        shape,
+        run_start(&*buf, shape, x),
+        remainder(shape, hash),
+    )
 }
 
 // 1 if a equals b, else 0.
