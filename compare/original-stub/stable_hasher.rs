@@ -35,6 +35,17 @@ impl Filter {
         &self.buffer
     }
 
+    /// The raw bytes, lent to another writer; `len` stays as it was.
+    pub fn buffer_mut(&mut self) -> &mut [u8] {
+        &mut self.buffer
+    }
+
+    /// Becomes `other`, of the same widths, in the same memory.
+    pub fn put_back(&mut self, other: &Filter) {
+        self.buffer.copy_from_slice(&other.buffer);
+        self.len = other.len;
+    }
+
     /// len, qbits, rbits, max_qbits, the last one 0 for none.
     pub fn parts(&self) -> (u64, u8, u8, u8) {
         let max_qbits = self.max_qbits.map_or(0, |m| m.get());

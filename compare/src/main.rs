@@ -6,13 +6,16 @@
         feature = "proved-foundation",
         feature = "proved-check",
         feature = "proved-lookup",
-        feature = "proved-write",
         feature = "proved-list",
+        feature = "proved-insert",
+        feature = "proved-remove",
         feature = "proved-growth"
     )),
     allow(dead_code, unused_imports)
 )]
 
+#[cfg(feature = "proved")]
+mod bench;
 mod call;
 mod damage;
 mod drivers;
@@ -36,16 +39,19 @@ const LONG: u64 = 10;
 /// What the command line asks for.
 struct Options {
     effort: Effort,
+    bench: bool,
     only: Option<String>,
 }
 
 fn options() -> Options {
-    let mut options = Options { effort: Effort { seed: seed::SEED, times: 1 }, only: None };
+    let effort = Effort { seed: seed::SEED, times: 1 };
+    let mut options = Options { effort, bench: false, only: None };
     let mut arguments = std::env::args().skip(1);
     while let Some(argument) = arguments.next() {
         match argument.as_str() {
             "short" => options.effort.times = 1,
             "long" => options.effort.times = LONG,
+            "bench" => options.bench = true,
             "--only" => options.only = arguments.next(),
             "--seed" => {
                 let seed = arguments.next().and_then(|seed| seed.parse().ok());
@@ -63,8 +69,9 @@ fn parts() -> String {
         ("foundation", cfg!(feature = "proved-foundation")),
         ("check", cfg!(feature = "proved-check")),
         ("lookup", cfg!(feature = "proved-lookup")),
-        ("write", cfg!(feature = "proved-write")),
         ("list", cfg!(feature = "proved-list")),
+        ("insert", cfg!(feature = "proved-insert")),
+        ("remove", cfg!(feature = "proved-remove")),
         ("growth", cfg!(feature = "proved-growth")),
     ];
     let asked: Vec<&str> = all.iter().filter(|part| part.1).map(|part| part.0).collect();
@@ -72,7 +79,10 @@ fn parts() -> String {
 }
 
 fn main() {
-    let Options { effort, only } = options();
+    let Options { effort, bench, only } = options();
+    if bench {
+        return measure(effort.seed, only.as_deref());
+    }
     let begun = Instant::now();
     let Effort { seed, times } = effort;
     println!("compare: seed {seed}, {times} times the short run, proved parts: {}", parts());
@@ -81,4 +91,14 @@ fn main() {
     assert!(drivers.peek().is_some(), "no driver of that name");
     drivers.for_each(|driver| driver.1(effort));
     println!("compare: nothing disagrees, {:.1} s", begun.elapsed().as_secs_f32());
+}
+
+#[cfg(feature = "proved")]
+fn measure(seed: u64, only: Option<&str>) {
+    bench::run(seed, only);
+}
+
+#[cfg(not(feature = "proved"))]
+fn measure(_: u64, _: Option<&str>) {
+    panic!("bench needs --proved");
 }

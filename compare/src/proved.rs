@@ -11,12 +11,14 @@ pub mod check;
 pub mod foundation;
 #[cfg(feature = "proved-growth")]
 pub mod growth;
+#[cfg(feature = "proved-insert")]
+pub mod insert;
 #[cfg(feature = "proved-list")]
 pub mod list;
 #[cfg(feature = "proved-lookup")]
 pub mod lookup;
-#[cfg(feature = "proved-write")]
-pub mod write;
+#[cfg(feature = "proved-remove")]
+pub mod remove;
 
 use crate::model::Numbers;
 

@@ -20,8 +20,9 @@ mod destinations;
 mod lengths;
 #[cfg(any(
     feature = "proved-lookup",
-    feature = "proved-write",
     feature = "proved-list",
+    feature = "proved-insert",
+    feature = "proved-remove",
     feature = "proved-growth"
 ))]
 mod refusals;
@@ -55,8 +56,9 @@ pub const ALL: &[Driver] = &[
     ("damage", damage::drive),
     #[cfg(any(
         feature = "proved-lookup",
-        feature = "proved-write",
         feature = "proved-list",
+        feature = "proved-insert",
+        feature = "proved-remove",
         feature = "proved-growth"
     ))]
     ("refusals", refusals::drive),

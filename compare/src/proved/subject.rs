@@ -43,9 +43,9 @@ impl Proved {
             Call::Contains { hash } => Some(self.contains(hash)),
             #[cfg(feature = "proved-lookup")]
             Call::Count { hash } => Some(self.count(hash)),
-            #[cfg(feature = "proved-write")]
+            #[cfg(feature = "proved-insert")]
             Call::Insert { hash, max_count } => Some(self.insert(hash, max_count)),
-            #[cfg(feature = "proved-write")]
+            #[cfg(feature = "proved-remove")]
             Call::Remove { hash } => Some(self.remove(hash)),
             #[cfg(feature = "proved-list")]
             Call::List if !self.quick => Some(self.list()),
@@ -71,18 +71,18 @@ impl Proved {
         super::lookup::count(self.quick, self.buffer.bytes(), self.numbers, hash).map(Answer::Count)
     }
 
-    #[cfg(feature = "proved-write")]
+    #[cfg(feature = "proved-insert")]
     fn insert(&mut self, hash: u64, max_count: u64) -> Asked {
         let (buffer, n) = (self.buffer.bytes_mut(), self.numbers);
-        let (count, numbers) = super::write::insert(self.quick, buffer, n, hash, max_count)?;
+        let (count, numbers) = super::insert::insert(self.quick, buffer, n, hash, max_count)?;
         self.numbers = numbers;
         Ok(Answer::Count(count))
     }
 
-    #[cfg(feature = "proved-write")]
+    #[cfg(feature = "proved-remove")]
     fn remove(&mut self, hash: u64) -> Asked {
         let (buffer, n) = (self.buffer.bytes_mut(), self.numbers);
-        let (removed, numbers) = super::write::remove(self.quick, buffer, n, hash)?;
+        let (removed, numbers) = super::remove::remove(self.quick, buffer, n, hash)?;
         self.numbers = numbers;
         match removed {
             0 | 1 => Ok(Answer::Removed(removed == 1)),

@@ -1,4 +1,5 @@
 pub mod Listing
+pub mod Merging
 pub mod Planning
 pub mod Reading
 pub mod Writing

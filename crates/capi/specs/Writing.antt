@@ -5,7 +5,9 @@ use mathlib.Core.List.{List}
 use Rattle.layout.specs.declared.numbers.Numbers.{Numbers}
 use Rattle.filter.specs.declared.writers.Inserted.{Inserted}
 use Rattle.filter.specs.declared.writers.Inserted.the-variants as inserted
-use Rattle.filter.specs.Writing.{Insert, InsertQuick}
+use Rattle.filter.specs.declared.writers.Removed.{Removed}
+use Rattle.filter.specs.declared.writers.Removed.the-variants as removed
+use Rattle.filter.specs.Writing.{Insert, InsertQuick, Remove, RemoveQuick}
 use Rattle.capi.specs.declared.planning.Changed.{Changed}
 
 abbrev pub insertedOf : Numbers → Inserted → Changed
@@ -21,3 +23,19 @@ pub record InsertQuickOutcome (n : Numbers) (hash most : ℕ) (s : List ℕ) (a 
   pub answer : Inserted
   pub right : InsertQuick n hash most s answer t
   pub is : a ≡ insertedOf n answer
+
+-- the answer is 1 for true, 0 for false
+abbrev pub removedOf : Numbers → Removed → Changed
+removedOf n (removed.Gone after) = record { number = 0; answer = 1; numbers = after }
+removedOf n removed.Absent = record { number = 0; answer = 0; numbers = n }
+removedOf n (removed.Refused k) = record { number = k; answer = 0; numbers = n }
+
+pub record RemoveOutcome (n : Numbers) (hash : ℕ) (s : List ℕ) (a : Changed) (t : List ℕ) : Type 0 where
+  pub answer : Removed
+  pub right : Remove n hash s answer t
+  pub is : a ≡ removedOf n answer
+
+pub record RemoveQuickOutcome (n : Numbers) (hash : ℕ) (s : List ℕ) (a : Changed) (t : List ℕ) : Type 0 where
+  pub answer : Removed
+  pub right : RemoveQuick n hash s answer t
+  pub is : a ≡ removedOf n answer

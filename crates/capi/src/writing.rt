@@ -1,8 +1,9 @@
 // Insert and remove.
 ghost use mathlib.Core.Path.{_≡_};
-ghost use Rattle.capi.specs.Writing.{insertedOf, InsertOutcome, InsertQuickOutcome};
+ghost use Rattle.capi.specs.Writing.{insertedOf, InsertOutcome, InsertQuickOutcome, removedOf, RemoveOutcome, RemoveQuickOutcome};
 use crate::planning::Changed;
 use filter::writers::Inserted;
+use filter::writers::Removed;
 use layout::numbers::Numbers;
 
 fn as_inserted(inserted: Inserted, n: Numbers) -> Changed
@@ -45,4 +46,40 @@ pub extern "C" fn strumblay_insert_quick(
         filter::writers::insert_fingerprint_counting_quick(buf, n, hash, max_count),
         n,
     )
+}
+
+fn as_removed(removed: Removed, n: Numbers) -> Changed
+    ensures { λ r. ⌜ r ≡ removedOf n removed ⌝ }
+{
+    match removed {
+        Removed::Gone(after) => Changed {
+            number: 0,
+            answer: 1,
+            numbers: after,
+        },
+        Removed::Absent => Changed {
+            number: 0,
+            answer: 0,
+            numbers: n,
+        },
+        Removed::Refused(k) => Changed {
+            number: k as u64,
+            answer: 0,
+            numbers: n,
+        },
+    }
+}
+
+#[no_mangle]
+pub extern "C" fn strumblay_remove(buf: &mut [u8], n: Numbers, hash: u64) -> Changed
+    ensures { λ r. ⌜ RemoveOutcome n hash (now (buf .entry)) r (now (buf .exit)) ⌝ }
+{
+    as_removed(filter::writers::remove_fingerprint(buf, n, hash), n)
+}
+
+#[no_mangle]
+pub extern "C" fn strumblay_remove_quick(buf: &mut [u8], n: Numbers, hash: u64) -> Changed
+    ensures { λ r. ⌜ RemoveQuickOutcome n hash (now (buf .entry)) r (now (buf .exit)) ⌝ }
+{
+    as_removed(filter::writers::remove_fingerprint_quick(buf, n, hash), n)
 }

@@ -1,5 +1,7 @@
+pub mod Answers
 pub mod Asking
 pub mod Insert
+pub mod Kept
 pub mod Leaving
 pub mod Listing
 pub mod Lookup
@@ -7,6 +9,7 @@ pub mod Moving
 pub mod Near
 pub mod Occupied
 pub mod Offsets
+pub mod Pinned
 pub mod Places
 pub mod Reading
 pub mod Remove
@@ -15,4 +18,5 @@ pub mod Scan
 pub mod Shifted
 pub mod Spots
 pub mod Steps
+pub mod Traces
 pub mod Writing

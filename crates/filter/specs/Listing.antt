@@ -3,19 +3,16 @@ use Prim.Native.Nat.{ℕ, _<_}
 use mathlib.Core.Path.{_≡_, sym, ap}
 use mathlib.Core.List.{List}
 use native.Mathlib.Omega.{arith}
-use lib.ListN.{length}
-use Rattle.theory.specs.Sound.{Holds, Checked}
-use Rattle.theory.specs.layout.Images.{image-is}
-use Rattle.theory.specs.check.Refusals.{none-due}
+use Rattle.theory.specs.Sound.{Holds}
 use Rattle.layout.specs.declared.numbers.Numbers.{Numbers}
-use Rattle.layout.specs.declared.shape.Shape.{Shape}
 use Rattle.filter.specs.declared.listing.Place.{Place}
 use Rattle.filter.specs.declared.listing.Step.the-variants as step
 use Rattle.filter.specs.declared.listing.Stepped.{Stepped}
 use Rattle.filter.specs.declared.listing.Begun.{Begun}
 use Rattle.filter.specs.declared.listing.Begun.the-variants as begun
-use Rattle.layout.specs.Whole.{Whole}
 use Rattle.layout.specs.Verdicts.{lowestDue}
+use Rattle.layout.specs.Judging.{clear-whole}
+use Rattle.filter.specs.Asking.{CheckedOn, shapeOf, holds-shows}
 use Rattle.filter.specs.Lookup.{Shows}
 use Rattle.filter.specs.Places.{stepped, nowhere, done, placeOf, stepOf, First, Steps}
 
@@ -24,8 +21,7 @@ HoldsOf n s l = Holds (n .qbits) (n .rbits) (n .len) s l
 
 -- a beginning is checked: the place after no steps
 abbrev pub Begins : Numbers → List ℕ → Begun → Type 0
-Begins n s a =
-    Checked (n .qbits) (n .rbits) (n .len) (n .«max_qbits») s (λ k. a ≡ begun.Refused k) (λ l. a ≡ begun.At (placeOf (n .qbits) (n .rbits) l 0))
+Begins n s a = CheckedOn n s (λ k. a ≡ begun.Refused k) (λ l. a ≡ begun.At (placeOf (n .qbits) (n .rbits) l 0))
 
 -- a step asks 1 to 5: refused, it leaves the place as it was; done stays done; and if the buffer is sound, after k steps it is step k
 pub record Listed (n : Numbers) (s : List ℕ) (p : Place) (r : Stepped) : Type 0 where
@@ -34,28 +30,19 @@ pub record Listed (n : Numbers) (s : List ℕ) (p : Place) (r : Stepped) : Type 
   pub right : lowestDue n s ≡ 0 → (l : List ℕ) → HoldsOf n s l → (k : ℕ) → p ≡ placeOf (n .qbits) (n .rbits) l k → r ≡ stepOf (n .qbits) (n .rbits) l k
 
 -- ---- from the core
-abbrev shapeOf : Numbers → Shape
-shapeOf n = record { qbits = n .qbits; rbits = n .rbits }
-
 module _ (n : Numbers) (s : List ℕ) (e : lowestDue n s ≡ 0) where
-  pub passed-whole : Whole (shapeOf n) (length s)
-  passed-whole =
-      let d = none-due (n .qbits) (n .rbits) (n .len) (n .«max_qbits») (length s) e in
-      record { widths = d .widths; fits = d .size-is }
-
-  -- a sound buffer shows the list held
-  pub holds-shows : (l : List ℕ) → HoldsOf n s l → Shows (shapeOf n) s l
-  holds-shows l h = record { holding = h .holding; image = rw (h .bytes) (image-is (n .qbits) (n .rbits) (passed-whole .widths .low) l (h .holding)) }
+  shows : (l : List ℕ) → HoldsOf n s l → Shows (shapeOf n) s l
+  shows l h = holds-shows n s l (clear-whole n s e .widths) h
 
   pub listed-core : (p : Place) (r : Stepped) → Steps (shapeOf n) s p r → Listed n s p r
   listed-core p r c = record {
     refused = λ k. absurd (omega arith);
     stays = λ _ z. c .stays z;
-    right = λ _ l h k z. c .right l (holds-shows l h) k z;
+    right = λ _ l h k z. c .right l (shows l h) k z;
   }
 
   pub begins-at : (p : Place) → First (shapeOf n) s (n .len) p → (l : List ℕ) → HoldsOf n s l → begun.At p ≡ begun.At (placeOf (n .qbits) (n .rbits) l 0)
-  begins-at p f l h = ap begun.At (f l (holds-shows l h) (sym (h .many)))
+  begins-at p f l h = ap begun.At (f l (shows l h) (sym (h .many)))
 
 pub listed-refused : (n : Numbers) (s : List ℕ) (p : Place) (k : ℕ) → k ≡ lowestDue n s → 0 < k → Listed n s p (stepped (step.Refused k) p)
 listed-refused n s p k e h = record {

@@ -1,5 +1,5 @@
--- What follows of the promises of a listing: from the first place on the steps give exactly the list held and then done, each place between is
--- that after so many steps, and the promises leave no choice. Assumes nothing.
+-- What follows of the promises of a listing: from the first place on the steps give exactly the list held and then done, and each place between is
+-- that after so many steps. Assumes nothing.
 use Prim.Native.Nat.{ℕ, zero, suc, _+_, _-_, _≤_, _<_}
 use mathlib.Core.Path.{_≡_, refl, sym, ap, ap₂, subst, _∙_}
 use mathlib.Core.Logic.{_⊎_, inl, inr}
@@ -7,27 +7,29 @@ use mathlib.Core.List.{List, [], _∷_, _++_, map}
 use native.Mathlib.Omega.{arith}
 use native.Mathlib.Decide.{decLt}
 use native.Mathlib.Nat.{add-zero, eq-zero-or-pos}
-use lib.ListN.{length, getD, take, drop, length-drop, replicate}
+use lib.ListN.{length, getD, take, drop, length-append, length-drop, length-map, replicate}
 use lib.Seq.{drop-cons}
 use Rattle.theory.specs.layout.Images.{image-tells}
 use Rattle.theory.specs.check.Decides.{sound-dec}
-use Rattle.theory.specs.check.Promises.{checked-one}
-use denote.Ref.{now}
 use Rattle.layout.specs.declared.numbers.Numbers.{Numbers}
 use Rattle.filter.specs.declared.listing.Place.{Place}
 use Rattle.filter.specs.declared.listing.Step.{Step}
 use Rattle.filter.specs.declared.listing.Step.the-variants.{Fingerprint, Done}
 use Rattle.filter.specs.declared.listing.Stepped.{Stepped}
-use Rattle.filter.specs.declared.listing.Begun.{Begun}
 use Rattle.filter.specs.declared.listing.Begun.the-variants as begun
-use Rattle.filter.specs.declared.reader.Reader.{Reader}
-use Rattle.filter.specs.declared.reader.Two.{Two}
 use Rattle.layout.specs.Verdicts.{lowestDue, SoundOf}
 use Rattle.filter.specs.Places.{stepped, nowhere, done, placeOf, stepOf, place-none, place-left, step-some, step-none}
-use Rattle.filter.specs.Listing.{HoldsOf, Begins, Listed, passed-whole}
-use Rattle.filter.specs.Reading.{Moved, TwoListed}
+use Rattle.layout.specs.Judging.{clear-whole}
+use Rattle.filter.specs.Listing.{HoldsOf, Begins, Listed}
 
 -- ---- the steps of a list
+drop-over : (k : ℕ) (l : List ℕ) → length l ≤ k → drop k l ≡ []
+drop-over k l b = empty (drop k l) (omega (arith, length-drop k l))
+  where
+    empty : (d : List ℕ) → length d ≡ 0 → d ≡ []
+    empty [] e = refl
+    empty (f ∷ d) e = absurd (omega arith)
+
 module _ (q r : ℕ) (l : List ℕ) where
   -- the answers of c steps from step k on
   unfoldable pub answers : ℕ → ℕ → List Step
@@ -35,7 +37,7 @@ module _ (q r : ℕ) (l : List ℕ) where
   answers k (suc c) = stepOf q r l k .step ∷ answers (suc k) c
 
   -- each step leaves the place after it
-  step-place : (k : ℕ) → stepOf q r l k .place ≡ placeOf q r l (suc k)
+  pub step-place : (k : ℕ) → stepOf q r l k .place ≡ placeOf q r l (suc k)
   step-place k = go (decLt k (length l))
     where
       go : Dec (k < length l) → stepOf q r l k .place ≡ placeOf q r l (suc k)
@@ -62,6 +64,22 @@ module _ (q r : ℕ) (l : List ℕ) where
   answers-part (suc c) k b =
       let d : k < length l = omega arith in
       rw (drop-cons l k 0 d) (ap₂ _∷_ (ap (λ (z : Stepped). z .step) (step-some q r l k d)) (answers-part c (suc k) (omega arith)))
+
+  -- steps that give fingerprints and then done for the first time give all from step k on
+  answers-until : (fs : List ℕ) (k : ℕ) → map Fingerprint fs ++ (Done ∷ []) ≡ answers k (length (map Fingerprint fs ++ (Done ∷ []))) → fs ≡ drop k l
+  unfolding answers
+  answers-until [] k e = go (decLt k (length l))
+    where
+      go : Dec (k < length l) → [] ≡ drop k l
+      go (yes b) = let z : _≡_ {A = ℕ} 0 1 = cc (e, ap (λ (z : Stepped). z .step) (step-some q r l k b)) in absurd (omega arith)
+      go (no b) = sym (drop-over k l (omega arith))
+  answers-until (f ∷ fs) k e = go (decLt k (length l)) (answers-until fs (suc k))
+    where
+      go : Dec (k < length l) → (map Fingerprint fs ++ (Done ∷ []) ≡ answers (suc k) (length (map Fingerprint fs ++ (Done ∷ []))) → fs ≡ drop (suc k) l) → f ∷ fs ≡ drop k l
+      go (yes b) ih =
+          let d : f ≡ getD l k 0 = cc (e, ap (λ (z : Stepped). z .step) (step-some q r l k b)) in
+          rw (drop-cons l k 0 b) (ap₂ _∷_ d (ih (cc e)))
+      go (no b) ih = let z : _≡_ {A = ℕ} 0 1 = cc (e, ap (λ (z : Stepped). z .step) (step-none q r l k (omega arith))) in absurd (omega arith)
 
   -- a place of the list tells how many steps were taken
   pub place-tells : (j k : ℕ) → j ≤ length l → k ≤ length l → placeOf q r l j ≡ placeOf q r l k → j ≡ k
@@ -113,13 +131,19 @@ module _ (n : Numbers) (s l : List ℕ) (e : lowestDue n s ≡ 0) (h : HoldsOf n
         place-after ts p g ∙ place-none (n .qbits) (n .rbits) l (length ts) (omega arith),
       )
 
+  -- steps up to the first done give exactly the list held, and so they are len + 1
+  pub until-done : (fs : List ℕ) (p : Place) → Goes n s (placeOf (n .qbits) (n .rbits) l 0) (map Fingerprint fs ++ (Done ∷ [])) p → (fs ≡ l) × (length (map Fingerprint fs ++ (Done ∷ [])) ≡ suc (n .len))
+  until-done fs p g =
+      let e = answers-until (n .qbits) (n .rbits) l fs 0 (goes-from _ 0 _ p refl g .0) in
+      (e, omega (arith, length-append (map Fingerprint fs) (Done ∷ []), length-map fs Fingerprint, ap length e, h .many))
+
   -- the promise can be kept at every place of the list, so there are such steps
   pub listed-is : (k : ℕ) → Listed n s (placeOf (n .qbits) (n .rbits) l k) (stepOf (n .qbits) (n .rbits) l k)
   listed-is k = record {
     refused = λ d. absurd (omega arith);
     stays = λ _ z. step-none (n .qbits) (n .rbits) l k (omega (arith, place-left (n .qbits) (n .rbits) l k, ap (λ (p : Place). p .remaining) z));
     right = λ _ l′ h′ k′ z.
-        let t : l′ ≡ l = image-tells (n .qbits) (n .rbits) (passed-whole n s e .widths .low) l′ l (h′ .holding) (h .holding) (sym (h′ .bytes) ∙ h .bytes) in
+        let t : l′ ≡ l = image-tells (n .qbits) (n .rbits) (clear-whole n s e .widths .low) l′ l (h′ .holding) (h .holding) (sym (h′ .bytes) ∙ h .bytes) in
         same-step (n .qbits) (n .rbits) l k k′ (z ∙ ap (λ (y : List ℕ). placeOf (n .qbits) (n .rbits) y k′) t)
         ∙ ap (λ (y : List ℕ). stepOf (n .qbits) (n .rbits) y k′) (sym t);
   }
@@ -132,77 +156,40 @@ module _ (n : Numbers) (s l : List ℕ) (e : lowestDue n s ≡ 0) (h : HoldsOf n
       let i = rw j at (goes-on c (suc k)) in
       (stepOf (n .qbits) (n .rbits) l k .place, listed-is k, rw (step-place (n .qbits) (n .rbits) l k) i)
 
--- a beginning that is not refused, and len + 1 steps from its place: the buffer holds a list, and these are its fingerprints, then done
-pub begun-listing : (n : Numbers) (s : List ℕ) (p p′ : Place) (ts : List Step) → Begins n s (begun.At p) → length ts ≡ suc (n .len) → Goes n s p ts p′
-    → (l : List ℕ) × HoldsOf n s l × (ts ≡ map Fingerprint l ++ (Done ∷ [])) × (p′ ≡ nowhere)
-begun-listing n s p p′ ts b c g = go (eq-zero-or-pos (lowestDue n s)) (sound-dec (n .qbits) (n .rbits) (n .len) (n .«max_qbits») s)
+-- ---- from the beginning
+-- a beginning that is not refused: the buffer holds a list, and the place is that of its first fingerprint
+pub begun-at : (n : Numbers) (s : List ℕ) (p : Place) → Begins n s (begun.At p) → (l : List ℕ) × HoldsOf n s l × (lowestDue n s ≡ 0) × (p ≡ placeOf (n .qbits) (n .rbits) l 0)
+begun-at n s p b = go (eq-zero-or-pos (lowestDue n s)) (sound-dec (n .qbits) (n .rbits) (n .len) (n .«max_qbits») s)
   where
     never : (k : ℕ) → begun.At p ≡ begun.Refused k → ⊥
     never k e = let z : _≡_ {A = ℕ} 0 1 = cc in omega arith
 
-    go : (lowestDue n s ≡ 0) ⊎ (0 < lowestDue n s) → Dec (SoundOf n s) → (l : List ℕ) × HoldsOf n s l × (ts ≡ map Fingerprint l ++ (Done ∷ [])) × (p′ ≡ nowhere)
+    go : (lowestDue n s ≡ 0) ⊎ (0 < lowestDue n s) → Dec (SoundOf n s) → (l : List ℕ) × HoldsOf n s l × (lowestDue n s ≡ 0) × (p ≡ placeOf (n .qbits) (n .rbits) l 0)
     go (inr d) y = absurd (never _ (b .early d))
     go (inl e) (no y) = absurd (never _ (b .damaged e y))
-    go (inl e) (yes y) =
-        let f : begun.At p ≡ begun.At (placeOf (n .qbits) (n .rbits) (y .held) 0) = b .sound e (y .held) (y .holds) in
-        let at : p ≡ placeOf (n .qbits) (n .rbits) (y .held) 0 = cc in
-        let w = whole-listing n s (y .held) e (y .holds) ts p′ c (subst (λ (m : Place). Goes n s m ts p′) at g) in
-        (y .held, y .holds, w .0, w .1)
+    go (inl e) (yes y) = (y .held, y .holds, e, cc (b .sound e (y .held) (y .holds)))
+
+-- len + 1 steps from its place: the fingerprints of that list, then done
+pub begun-listing : (n : Numbers) (s : List ℕ) (p p′ : Place) (ts : List Step) → Begins n s (begun.At p) → length ts ≡ suc (n .len) → Goes n s p ts p′
+    → (l : List ℕ) × HoldsOf n s l × (ts ≡ map Fingerprint l ++ (Done ∷ [])) × (p′ ≡ nowhere)
+begun-listing n s p p′ ts b c g =
+    let y = begun-at n s p b in
+    let w = whole-listing n s (y .0) (y .2) (y .1) ts p′ c (subst (λ (m : Place). Goes n s m ts p′) (y .3) g) in
+    (y .0, y .1, w .0, w .1)
+
+-- the steps from its place up to the first done: they give exactly that list, and they are len + 1
+pub begun-until-done : (n : Numbers) (s : List ℕ) (p p′ : Place) (fs : List ℕ) → Begins n s (begun.At p) → Goes n s p (map Fingerprint fs ++ (Done ∷ [])) p′
+    → HoldsOf n s fs × (length (map Fingerprint fs ++ (Done ∷ [])) ≡ suc (n .len))
+begun-until-done n s p p′ fs b g =
+    let y = begun-at n s p b in
+    let w = until-done n s (y .0) (y .2) (y .1) fs p′ (subst (λ (m : Place). Goes n s m (map Fingerprint fs ++ (Done ∷ [])) p′) (y .3) g) in
+    (rw (w .0) (y .1), w .1)
 
 -- done stays done, whatever the buffer is, if none of 1 to 5 is due
 pub done-stays : (n : Numbers) (s : List ℕ) → lowestDue n s ≡ 0 → (ts : List Step) (p : Place) → Goes n s nowhere ts p → (ts ≡ replicate (length ts) Done) × (p ≡ nowhere)
-unfolding Goes replicate
+unfolding Goes
 done-stays n s e [] p g = (refl, sym g)
 done-stays n s e (a ∷ ts) p g =
     let t : stepped a (g .0) ≡ done = g .1 .stays e refl in
     let i = done-stays n s e ts p (subst (λ (m : Place). Goes n s m ts p) (ap (λ (z : Stepped). z .place) t) (g .2)) in
     (ap₂ _∷_ (ap (λ (z : Stepped). z .step) t) (i .0), i .1)
-
--- ---- what the promises pin down
--- a number is due, or none remain, or the buffer is sound and the place is one of the list held
-abbrev pub Fixed : Numbers → List ℕ → Place → Type 0
-Fixed n s p = (0 < lowestDue n s) ⊎ ((p ≡ nowhere) ⊎ ((l : List ℕ) × (k : ℕ) × HoldsOf n s l × (p ≡ placeOf (n .qbits) (n .rbits) l k)))
-
-pub listed-one : (n : Numbers) (s : List ℕ) (p : Place) → Fixed n s p → (a b : Stepped) → Listed n s p a → Listed n s p b → a ≡ b
-listed-one n s p f a b x y = go f (eq-zero-or-pos (lowestDue n s))
-  where
-    go : Fixed n s p → (lowestDue n s ≡ 0) ⊎ (0 < lowestDue n s) → a ≡ b
-    go f (inr d) = x .refused d ∙ sym (y .refused d)
-    go (inl d) (inl e) = absurd (omega arith)
-    go (inr (inl z)) (inl e) = x .stays e z ∙ sym (y .stays e z)
-    go (inr (inr z)) (inl e) = x .right e (z .0) (z .2) (z .1) (z .3) ∙ sym (y .right e (z .0) (z .2) (z .1) (z .3))
-
-pub begins-one : (n : Numbers) (s : List ℕ) (a b : Begun) → Begins n s a → Begins n s b → a ≡ b
-begins-one n s =
-    checked-one (λ k a. a ≡ begun.Refused k) (λ l a. a ≡ begun.At (placeOf (n .qbits) (n .rbits) l 0)) (n .qbits) (n .rbits) (n .len) (n .«max_qbits») s
-    (λ k a b x y. x ∙ sym y) (λ l h a b x y. x ∙ sym y)
-
--- a step from a place that is pinned down leaves one that is
-fixed-next : (n : Numbers) (s : List ℕ) (p : Place) → Fixed n s p → (a : Stepped) → Listed n s p a → Fixed n s (a .place)
-fixed-next n s p f a x = go f (eq-zero-or-pos (lowestDue n s))
-  where
-    go : Fixed n s p → (lowestDue n s ≡ 0) ⊎ (0 < lowestDue n s) → Fixed n s (a .place)
-    go f (inr d) = inl d
-    go (inl d) (inl e) = inl d
-    go (inr (inl z)) (inl e) = inr (inl (ap (λ (y : Stepped). y .place) (x .stays e z)))
-    go (inr (inr z)) (inl e) =
-        inr (inr (z .0, suc (z .1), z .2, ap (λ (y : Stepped). y .place) (x .right e (z .0) (z .2) (z .1) (z .3)) ∙ step-place (n .qbits) (n .rbits) (z .0) (z .1)))
-
-pub moved-one : (r : Reader) → Fixed (r .numbers) (now (r .buf)) (r .place) → (a b : Step) (r₁ r₂ : Reader) → Moved r a r₁ → Moved r b r₂ → (a ≡ b) × (r₁ ≡ r₂)
-moved-one r f a b r₁ r₂ x y =
-    (ap (λ (z : Stepped). z .step) one, x .kept ∙ ap (λ (z : Stepped). record { buf = r .buf; numbers = r .numbers; place = z .place }) one ∙ sym (y .kept))
-  where
-    one : stepped a (r₁ .place) ≡ stepped b (r₂ .place)
-    one = listed-one (r .numbers) (now (r .buf)) (r .place) f _ _ (x .listed) (y .listed)
-
-pub two-one : (n : Numbers) (s : List ℕ) (p : Place) → Fixed n s p → (a b : Two) → TwoListed n s p a → TwoListed n s p b → a ≡ b
-two-one n s p f a b x y = λ i. record { first = one i .step; second = two i .step; place = two i .place }
-  where
-    one : stepped (a .first) (x .between) ≡ stepped (b .first) (y .between)
-    one = listed-one n s p f _ _ (x .first) (y .first)
-
-    back : y .between ≡ x .between
-    back = sym (ap (λ (z : Stepped). z .place) one)
-
-    two : stepped (a .second) (a .place) ≡ stepped (b .second) (b .place)
-    two = listed-one n s (x .between) (fixed-next n s p f _ (x .first)) _ _ (x .second) (subst (λ (m : Place). Listed n s m (stepped (b .second) (b .place))) back (y .second))

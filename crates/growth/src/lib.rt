@@ -1,1 +1,7 @@
 // Growth, merge and insert with a spare, over the filter's promises.
+pub mod adding;
+pub mod merge;
+pub mod rebuild;
+pub mod take;
+pub mod union;
+pub mod wider;

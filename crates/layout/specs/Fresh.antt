@@ -1,16 +1,14 @@
--- What a fresh filter answers and leaves in the buffer: document 01's number and values for each case, that the promise leaves no choice,
--- and that what is made is sound.
+-- What a fresh filter answers and leaves in the buffer: document 01's number and values for each case, and that what is made is sound.
 use Prim.Native.Nat.{ℕ, _<_}
-use mathlib.Core.Path.{_≡_, sym, ap, _∙_}
+use mathlib.Core.Path.{_≡_}
 use mathlib.Core.List.{List, []}
-use native.Mathlib.Omega.{arith}
 use lib.ListN.{length}
 use Rattle.theory.specs.Image.{image}
 use Rattle.theory.specs.Sound.{Sound, Holds}
 use Rattle.theory.specs.Planning.{freshDue}
 use Rattle.theory.specs.plan.Due.{none-fresh}
 use Rattle.theory.specs.plan.Empty.{sound-empty, holds-empty}
-use Rattle.layout.specs.Records.{NumbersOf, numbers-unique}
+use Rattle.layout.specs.Records.{NumbersOf}
 use Rattle.layout.specs.declared.numbers.Numbers.{Numbers}
 use Rattle.layout.specs.declared.fresh.Made.{Made}
 use Rattle.layout.specs.declared.fresh.Made.the-variants.{Fresh, Refused}
@@ -19,12 +17,6 @@ use Rattle.layout.specs.declared.fresh.Made.the-variants.{Fresh, Refused
 abbrev pub MadeAs : List ℕ → ℕ → ℕ → ℕ → Made → List ℕ → Type 0
 MadeAs s q r mx (Fresh n) t = (freshDue q r mx (length s) ≡ 0) × NumbersOf 0 q r mx n × (t ≡ image q r [])
 MadeAs s q r mx (Refused k) t = (freshDue q r mx (length s) ≡ k) × (0 < k) × (t ≡ s)
-
-pub made-unique : (s : List ℕ) (q r mx : ℕ) (a b : Made) (t u : List ℕ) → MadeAs s q r mx a t → MadeAs s q r mx b u → (a ≡ b) × (t ≡ u)
-made-unique s q r mx (Fresh m) (Fresh n) t u x y = (ap Fresh (numbers-unique _ _ _ _ m n (x .1) (y .1)), x .2 ∙ sym (y .2))
-made-unique s q r mx (Fresh m) (Refused k) t u x y = absurd (omega arith)
-made-unique s q r mx (Refused k) (Fresh n) t u x y = absurd (omega arith)
-made-unique s q r mx (Refused k) (Refused j) t u x y = (ap Refused (sym (x .0) ∙ y .0), x .2 ∙ sym (y .2))
 
 -- a fresh filter is sound and holds nothing
 pub made-sound : (s : List ℕ) (q r mx : ℕ) (n : Numbers) (t : List ℕ) → MadeAs s q r mx (Fresh n) t

@@ -1,6 +1,6 @@
--- What follows of a verdict: the check's answer is one, it pins the verdict down, and it is what a checked call needs. Assumes nothing.
+-- What follows of a verdict: the check's answer is one, and it is what a checked call needs. Assumes nothing.
 use Prim.Native.Nat.{ℕ, _+_, _<_}
-use mathlib.Core.Path.{_≡_, refl, sym, ap, subst, _∙_}
+use mathlib.Core.Path.{_≡_, sym, subst}
 use mathlib.Core.Logic.{inl, inr}
 use mathlib.Core.List.{List}
 use native.Mathlib.Omega.{arith}
@@ -32,18 +32,6 @@ module _ (n : Numbers) (s : List ℕ) (b : Bytes s) (e : lowestDue n s ≡ 0) (k
   judged (Refused j) a =
       let d = none-due (n .qbits) (n .rbits) (n .len) (n .«max_qbits») (length s) e in
       inr (e, (λ h. a .0 (subst (Answer (blocks (n .qbits)) (n .len)) (sym whole) (holds-answer (n .qbits) (n .rbits) (n .len) (d .widths) s (h .held) (h .holds)))), a .1)
-
--- the promise determines the verdict
-pub judged-one : (n : Numbers) (s : List ℕ) (v w : Verdict) → Judged n s v → Judged n s w → v ≡ w
-judged-one n s Sound Sound a b = refl
-judged-one n s Sound (Refused k) a (inl p) = absurd (omega (arith, a .none))
-judged-one n s Sound (Refused k) a (inr p) = absurd (p .1 a)
-judged-one n s (Refused j) Sound (inl p) b = absurd (omega (arith, b .none))
-judged-one n s (Refused j) Sound (inr p) b = absurd (p .1 b)
-judged-one n s (Refused j) (Refused k) (inl p) (inl p′) = ap Refused (p .1 ∙ sym (p′ .1))
-judged-one n s (Refused j) (Refused k) (inl p) (inr p′) = absurd (omega arith)
-judged-one n s (Refused j) (Refused k) (inr p) (inl p′) = absurd (omega arith)
-judged-one n s (Refused j) (Refused k) (inr p) (inr p′) = ap Refused (p .2 ∙ sym (p′ .2))
 
 -- a checked call that begins with the check: refuse its number, or do what is right for the list held
 module _ (n : Numbers) (s : List ℕ) (refused : ℕ → Type 0) (right : List ℕ → Type 0) where

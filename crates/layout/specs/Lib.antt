@@ -1,5 +1,6 @@
 pub mod Fresh
 pub mod Judging
+pub mod Pinned
 pub mod Plans
 pub mod Records
 pub mod Shapes

@@ -1,13 +1,12 @@
--- What planning answers: document 01's number and values for each case, and that a promise leaves no choice.
+-- What planning answers: document 01's number and values for each case.
 use Prim.Native.Nat.{ℕ, _+_, _-_, _<_}
-use mathlib.Core.Path.{_≡_, sym, ap, _∙_}
-use native.Mathlib.Omega.{arith}
+use mathlib.Core.Path.{_≡_}
 use lib.Ieee.{Float}
 use Rattle.theory.specs.Shape.{capacity, bytes}
 use Rattle.theory.specs.Planning.{neededQbits, rbitsFor, halfPow, perItem, plannedRbits, plannedMax, capacityDue, specsDue, planDue, freshDue}
 use Rattle.theory.specs.plan.Due.{plan-fresh}
 use Rattle.layout.specs.declared.numbers.Numbers.{Numbers}
-use Rattle.layout.specs.Records.{NumbersOf, numbers-unique}
+use Rattle.layout.specs.Records.{NumbersOf}
 use Rattle.layout.specs.declared.planning.Needed.{Needed}
 use Rattle.layout.specs.declared.planning.Needed.the-variants as needed
 use Rattle.layout.specs.declared.planning.FilterSpecs.{FilterSpecs}
@@ -40,36 +39,6 @@ abbrev pub PlannedAs : ℕ → ℕ → Float → Planned → Type 0
 PlannedAs initial most rate (planned.Widths n) =
     (planDue initial most rate ≡ 0) × NumbersOf 0 (neededQbits initial) (plannedRbits initial most rate) (plannedMax initial most) n
 PlannedAs initial most rate (planned.Refused k) = (planDue initial most rate ≡ k) × (0 < k)
-
--- ---- two answers that meet a promise are one
-pub needed-unique : (c : ℕ) (a b : Needed) → NeededAs c a → NeededAs c b → a ≡ b
-needed-unique c (needed.Qbits p) (needed.Qbits q) s t = ap needed.Qbits (s .1 ∙ sym (t .1))
-needed-unique c (needed.Qbits p) (needed.Refused k) s t = absurd (omega arith)
-needed-unique c (needed.Refused k) (needed.Qbits q) s t = absurd (omega arith)
-needed-unique c (needed.Refused k) (needed.Refused j) s t = ap needed.Refused (sym (s .0) ∙ t .0)
-
-specs-unique : (q r : ℕ) (a b : FilterSpecs) → SpecsOf q r a → SpecsOf q r b → a ≡ b
-specs-unique q r a b s t = λ i. record {
-  «max_capacity» = (s .max-capacity ∙ sym (t .max-capacity)) i;
-  «max_error_ratio» = (s .max-error-ratio ∙ sym (t .max-error-ratio)) i;
-  «bits_per_item» = (s .bits-per-item ∙ sym (t .bits-per-item)) i;
-  «memory_bytes_min» = (s .memory-bytes-min ∙ sym (t .memory-bytes-min)) i;
-  «memory_bytes_max» = (s .memory-bytes-max ∙ sym (t .memory-bytes-max)) i;
-  «fingerprint_bits» = (s .fingerprint-bits ∙ sym (t .fingerprint-bits)) i;
-}
-
-pub specified-unique : (c : ℕ) (rate : Float) (a b : Specified) → SpecifiedAs c rate a → SpecifiedAs c rate b → a ≡ b
-specified-unique c rate (specified.Specs x) (specified.Specs y) s t = ap specified.Specs (specs-unique _ _ x y (s .1) (t .1))
-specified-unique c rate (specified.Specs x) (specified.Refused k) s t = absurd (omega arith)
-specified-unique c rate (specified.Refused k) (specified.Specs y) s t = absurd (omega arith)
-specified-unique c rate (specified.Refused k) (specified.Refused j) s t = ap specified.Refused (sym (s .0) ∙ t .0)
-
-pub planned-unique : (initial most : ℕ) (rate : Float) (a b : Planned) → PlannedAs initial most rate a → PlannedAs initial most rate b → a ≡ b
-planned-unique initial most rate (planned.Widths m) (planned.Widths n) s t =
-    ap planned.Widths (numbers-unique _ _ _ _ m n (s .1) (t .1))
-planned-unique initial most rate (planned.Widths m) (planned.Refused k) s t = absurd (omega arith)
-planned-unique initial most rate (planned.Refused k) (planned.Widths n) s t = absurd (omega arith)
-planned-unique initial most rate (planned.Refused k) (planned.Refused j) s t = ap planned.Refused (sym (s .0) ∙ t .0)
 
 -- a plan can be made: with a buffer of the formula's length nothing is due for a fresh filter
 pub planned-fresh : (initial most : ℕ) (rate : Float) (n : Numbers) → PlannedAs initial most rate (planned.Widths n)

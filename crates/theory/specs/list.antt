@@ -1,12 +1,13 @@
 pub mod Adding
 pub mod Copies
 pub mod Fewer
+pub mod Firsts
 pub mod Flat
-pub mod Joined
 pub mod Last
 pub mod More
 pub mod Runs
 pub mod Scan
 pub mod Seek
 pub mod Spot
-pub mod Stream
+pub mod Traces
+pub mod UpTo

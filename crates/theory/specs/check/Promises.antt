@@ -38,6 +38,12 @@ module _ {O : Type 0} (refused : ℕ → O → Type 0) (right : List ℕ → O �
   quick-one left (inl h) a b p p′ = one _ a b (p .early h) (p′ .early h)
   quick-one left (inr h) a b p p′ = same (h .held) (h .holds) a b (p .sound (h .none) (h .held) (h .holds)) (p′ .sound (h .none) (h .held) (h .holds))
 
+  -- there a quick call and a checked one have the same outcome
+  pub quick-checked : (left : O → Type 0) → (0 < due q r len mx (length s)) ⊎ Sound q r len mx s
+      → (a b : O) → Quick q r len mx s (λ k. refused k a) (λ l. right l a) (left a) → Checked q r len mx s (λ k. refused k b) (λ l. right l b) → a ≡ b
+  quick-checked left (inl h) a b p p′ = one _ a b (p .early h) (p′ .early h)
+  quick-checked left (inr h) a b p p′ = same (h .held) (h .holds) a b (p .sound (h .none) (h .held) (h .holds)) (p′ .sound (h .none) (h .held) (h .holds))
+
 -- ---- demand 2: every holding, of fewer than slots fingerprints, has a sound buffer
 pub a-filter : (q r : ℕ) (l : List ℕ) → Widths q r → Holding (slots q) (2 ^ r) l → Sound q r (length l) 0 (image q r l)
 a-filter q r l w h = record {

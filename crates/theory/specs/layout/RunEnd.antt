@@ -1,13 +1,13 @@
--- What a lookup counts: the end of a run by rank and select from a block's first quotient B; whether a slot is free; how far the next free slot is; the carry before quotient 0.
+-- What a lookup counts: the end of a run by rank and select from a block's first quotient B; whether a slot is free; how far the next free slot is; the runs pending before quotient 0.
 -- `total E t - total E s` is the number of runend bits in the slots from s to before t, `total (occ n) y - total (occ n) x` that of the occupied quotients from x to before y.
 -- Assumes nothing.
-use Prim.Native.Nat.{ℕ, zero, suc, _+_, _-_, _*_, _≤_, _<_, min, max}
-use mathlib.Core.Path.{_≡_, refl, sym, ap, _∙_}
+use Prim.Native.Nat.{ℕ, suc, _+_, _-_, _≤_, _<_, max}
+use mathlib.Core.Path.{_≡_, sym, ap, _∙_}
 use mathlib.Core.Logic.{_⊎_, inl, inr}
 use native.Mathlib.Omega.{arith}
-use native.Mathlib.Decide.{decLe, decLt, ℕ-discrete}
-use native.Mathlib.Nat.{add-zero, add-suc, zero-add, eq-zero-or-pos}
-use Rattle.theory.specs.tools.Total.{total, total-zero, total-bits, total-suc, total-le, select-unique}
+use native.Mathlib.Decide.{decLe, decLt}
+use native.Mathlib.Nat.{eq-zero-or-pos}
+use Rattle.theory.specs.tools.Total.{total, total-bits, total-suc, total-le}
 use Rattle.theory.specs.Image.{carry, start, occ, last}
 use Rattle.theory.specs.carry.Carry.{Round, Free, FirstFree, first-free, start-suc, start-carry, start-le, free-start, start-per, carry-per}
 use Rattle.theory.specs.layout.Cells.{Filled}
@@ -96,25 +96,3 @@ module _ (m : ℕ) (n : ℕ → ℕ) (E : ℕ → ℕ) (r : Round m n) (per : (t
 
   pub pending-met : (t : ℕ) → Free m n t → total E t ≡ total E (start m n 0) + total (occ n) t
   pending-met t f = sym (ap (total E) (free-start m n t f)) ∙ rank-start m n E h t
-
-  -- and from their number the carry: none, or up to the slot behind the runend of the last of them
-  pub pending-none : total E (start m n 0) ≡ 0 → carry m n 0 ≡ 0
-  pending-none e = go (eq-zero-or-pos (carry m n 0))
-    where
-      go : (carry m n 0 ≡ 0) ⊎ (0 < carry m n 0) → carry m n 0 ≡ 0
-      go (inl c) = c
-      go (inr c) =
-          let t : total E (suc (start m n 0 - 1)) ≡ total E (start m n 0) = ap (total E) (omega (arith, start-carry m n 0)) in
-          absurd (omega (arith, shifted-end 0 c, total-suc E (start m n 0 - 1)))
-
-  pub pending-some : (p : ℕ) → 0 < E p → suc (total E p) ≡ total E (start m n 0) → carry m n 0 ≡ suc p
-  pending-some p one e = go (eq-zero-or-pos (carry m n 0))
-    where
-      go : (carry m n 0 ≡ 0) ⊎ (0 < carry m n 0) → carry m n 0 ≡ suc p
-      go (inl c) =
-          let z : start m n 0 ≡ 0 = omega (arith, start-carry m n 0) in
-          absurd (omega (arith, ap (total E) z, total-zero E))
-      go (inr c) =
-          let t : total E (suc (start m n 0 - 1)) ≡ total E (start m n 0) = ap (total E) (omega (arith, start-carry m n 0)) in
-          let s : p ≡ start m n 0 - 1 = select-unique E p (start m n 0 - 1) one (omega (arith, shifted-end 0 c)) (omega (arith, shifted-end 0 c, total-suc E (start m n 0 - 1))) in
-          omega (arith, start-carry m n 0)

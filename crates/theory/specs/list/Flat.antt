@@ -13,7 +13,7 @@ use Rattle.theory.specs.tools.Choose.{choose, choose-yes, choose-no}
 use Rattle.theory.specs.Holding.{Least, Under, Ascending, run}
 use Rattle.theory.specs.list.Runs.{flat}
 
-under-mono : (a b : ℕ) (l : List ℕ) → a ≤ b → Under a l → Under b l
+pub under-mono : (a b : ℕ) (l : List ℕ) → a ≤ b → Under a l → Under b l
 unfolding Under
 under-mono a b [] h u = tt
 under-mono a b (f ∷ l) h u = (le-trans (u .0) h, under-mono a b l h (u .1))

@@ -2,8 +2,8 @@
 use mathlib.Core.Path.{refl, subst}
 use denote.Ref.{now}
 use Rattle.layout.specs.Verdicts.{Judged, SoundOf}
-use Rattle.layout.specs.Judging.{checked-refused, checked-sound}
-use Rattle.filter.specs.Listing.{passed-whole, begins-at}
+use Rattle.layout.specs.Judging.{checked-refused, checked-sound, clear-whole}
+use Rattle.filter.specs.Listing.{begins-at}
 use borrow.Author.Needs.{needs}
 use Rattle.filter.proofs.listing.begin.Statement.{statement}
 use Rattle.filter.proofs.listing.begin.Tie as tie
@@ -22,7 +22,7 @@ enum-told : tie.Need-enum-told
 enum-told c = search needs
 
 first-place-requires : tie.Need-first-place-requires
-first-place-requires c κs = passed-whole (c .before .before .before .before .args .n) (now (c .before .before .before .before .args .buf)) (sound c .none)
+first-place-requires c κs = clear-whole (c .before .before .before .before .args .n) (now (c .before .before .before .before .args .buf)) (sound c .none)
 
 returns : tie.Need-returns
 returns c =

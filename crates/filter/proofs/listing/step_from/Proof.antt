@@ -3,7 +3,8 @@ use mathlib.Core.Path.{_≡_, sym, _∙_}
 use native.Mathlib.Omega.{arith}
 use denote.Ref.{now}
 use Rattle.layout.specs.Verdicts.{lowestDue}
-use Rattle.filter.specs.Listing.{listed-refused, passed-whole, listed-core}
+use Rattle.layout.specs.Judging.{clear-whole}
+use Rattle.filter.specs.Listing.{listed-refused, listed-core}
 use borrow.Author.Needs.{needs}
 use Rattle.filter.proofs.listing.step_from.Statement.{statement}
 use Rattle.filter.proofs.listing.step_from.Tie as tie
@@ -19,7 +20,7 @@ returns : tie.Need-returns
 returns c = listed-refused _ _ _ _ (c .before .number-due .ensures) (c .if1 .taken)
 
 step-core-requires : tie.Need-step-core-requires
-step-core-requires c κs = passed-whole (c .before .before .before .args .n) (now (c .before .before .before .args .buf)) (none c)
+step-core-requires c κs = clear-whole (c .before .before .before .args .n) (now (c .before .before .before .args .buf)) (none c)
 
 returns-2 : tie.Need-returns-2
 returns-2 c =

@@ -1,0 +1,179 @@
+-- What the promises of this crate's public calls pin down: of each, any two outcomes (the answer with its record, and every lent byte where the call writes) that keep its promise coincide.
+-- Checked calls: for all inputs. Quick calls: where a number 1 to 5 is due or the buffer is sound. Steps of a listing: there, from any place of the list held and from its end.
+-- What is left open is in docs/EXCEPTIONS.md. Assumes nothing.
+use Prim.Native.Nat.{ℕ, suc, _≤_, _<_, max}
+use mathlib.Core.Path.{_≡_, sym, ap, subst, _∙_}
+use mathlib.Core.Logic.{_⊎_, inl, inr}
+use mathlib.Core.List.{List}
+use native.Mathlib.Omega.{arith}
+use native.Mathlib.Decide.{decLe}
+use native.Mathlib.Nat.{eq-zero-or-pos}
+use denote.Ref.{RefT, now}
+use Rattle.theory.specs.Shape.{capacity}
+use Rattle.theory.specs.Holding.{copies}
+use Rattle.theory.specs.check.Promises.{checked-one, quick-one}
+use Rattle.layout.specs.declared.numbers.Numbers.{Numbers}
+use Rattle.layout.specs.Verdicts.{lowestDue, SoundOf}
+use Rattle.filter.specs.declared.contains.Lookup.{Lookup}
+use Rattle.filter.specs.declared.contains.Lookup.the-variants as lookup
+use Rattle.filter.specs.declared.contains.Counting.{Counting}
+use Rattle.filter.specs.declared.contains.Counting.the-variants as counting
+use Rattle.filter.specs.declared.writers.Inserted.{Inserted}
+use Rattle.filter.specs.declared.writers.Inserted.the-variants as inserted
+use Rattle.filter.specs.declared.writers.Removed.{Removed}
+use Rattle.filter.specs.declared.writers.Removed.the-variants as removed
+use Rattle.filter.specs.declared.listing.Place.{Place}
+use Rattle.filter.specs.declared.listing.Step.{Step}
+use Rattle.filter.specs.declared.listing.Stepped.{Stepped}
+use Rattle.filter.specs.declared.listing.Begun.{Begun}
+use Rattle.filter.specs.declared.listing.Begun.the-variants as begun
+use Rattle.filter.specs.declared.reader.Reader.{Reader}
+use Rattle.filter.specs.declared.reader.Two.{Two}
+use Rattle.filter.specs.Asking.{CheckedOn, QuickOn, Contains, ContainsQuick, Count, CountQuick, fingerprintOf, lookupOf}
+use Rattle.filter.specs.Writing.{Inserts, Insert, InsertQuick, Removes, Remove, RemoveQuick, Inside}
+use Rattle.filter.specs.Places.{stepped, nowhere, placeOf}
+use Rattle.filter.specs.Listing.{HoldsOf, Begins, Listed}
+use Rattle.filter.specs.Reading.{Moved, TwoListed}
+use Rattle.filter.specs.Steps.{step-place}
+
+-- a number 1 to 5 is due, or the buffer is sound
+abbrev pub Settled : Numbers → List ℕ → Type 0
+Settled n s = (0 < lowestDue n s) ⊎ SoundOf n s
+
+-- ---- calls that only answer: each number has its answer, and so has each list held
+module _ {O : Type 0} (no : ℕ → O) (yes : List ℕ → O) (n : Numbers) (s : List ℕ) where
+  checked-answer : (a b : O) → CheckedOn n s (λ k. a ≡ no k) (λ l. a ≡ yes l) → CheckedOn n s (λ k. b ≡ no k) (λ l. b ≡ yes l) → a ≡ b
+  checked-answer = checked-one (λ k a. a ≡ no k) (λ l a. a ≡ yes l) _ _ _ _ s (λ k a b x y. x ∙ sym y) (λ l h a b x y. x ∙ sym y)
+
+  quick-answer : Settled n s → (a b : O) → QuickOn n s (λ k. a ≡ no k) (λ l. a ≡ yes l) (Unit {0}) → QuickOn n s (λ k. b ≡ no k) (λ l. b ≡ yes l) (Unit {0}) → a ≡ b
+  quick-answer = quick-one (λ k a. a ≡ no k) (λ l a. a ≡ yes l) _ _ _ _ s (λ k a b x y. x ∙ sym y) (λ l h a b x y. x ∙ sym y) (λ _. Unit {0})
+
+pub contains-fingerprint-pinned : (n : Numbers) (s : List ℕ) (hash : ℕ) (a b : Lookup) → Contains n s hash a → Contains n s hash b → a ≡ b
+contains-fingerprint-pinned n s hash = checked-answer lookup.Refused (lookupOf n (fingerprintOf n hash)) n s
+
+pub contains-fingerprint-quick-pinned : (n : Numbers) (s : List ℕ) (hash : ℕ) → Settled n s → (a b : Lookup) → ContainsQuick n s hash a → ContainsQuick n s hash b → a ≡ b
+contains-fingerprint-quick-pinned n s hash = quick-answer lookup.Refused (lookupOf n (fingerprintOf n hash)) n s
+
+pub count-fingerprint-pinned : (n : Numbers) (s : List ℕ) (hash : ℕ) (a b : Counting) → Count n s hash a → Count n s hash b → a ≡ b
+count-fingerprint-pinned n s hash = checked-answer counting.Refused (λ l. counting.Copies (copies (fingerprintOf n hash) l)) n s
+
+pub count-fingerprint-quick-pinned : (n : Numbers) (s : List ℕ) (hash : ℕ) → Settled n s → (a b : Counting) → CountQuick n s hash a → CountQuick n s hash b → a ≡ b
+count-fingerprint-quick-pinned n s hash = quick-answer counting.Refused (λ l. counting.Copies (copies (fingerprintOf n hash) l)) n s
+
+pub begin-pinned : (n : Numbers) (s : List ℕ) (a b : Begun) → Begins n s a → Begins n s b → a ≡ b
+begin-pinned n s = checked-answer begun.Refused (λ l. begun.At (placeOf (n .qbits) (n .rbits) l 0)) n s
+
+-- ---- calls that write: an outcome is the answer and the buffer afterwards
+alike : {A : Type 0} {a : A} {t : List ℕ} (x y : A × List ℕ) → (x .0 ≡ a) × (x .1 ≡ t) → (y .0 ≡ a) × (y .1 ≡ t) → x ≡ y
+alike x y p q = λ i. ((p .0 ∙ sym (q .0)) i, (p .1 ∙ sym (q .1)) i)
+
+pub apart : {A : Type 0} (x y : A × List ℕ) → x ≡ y → (x .0 ≡ y .0) × (x .1 ≡ y .1)
+apart x y e = (ap (λ z. z .0) e, ap (λ z. z .1) e)
+
+-- a refusal is its number alone, with the buffer as it was; what is right for the list held is one outcome
+abbrev pub InsertRefused : List ℕ → ℕ → Inserted × List ℕ → Type 0
+InsertRefused s k x = (x .0 ≡ inserted.Refused k) × (x .1 ≡ s)
+
+abbrev pub InsertRight : Numbers → ℕ → ℕ → List ℕ → List ℕ → Inserted × List ℕ → Type 0
+InsertRight n hash most s l x = Inserts n (fingerprintOf n hash) most l s (x .0) (x .1)
+
+abbrev pub RemoveRefused : List ℕ → ℕ → Removed × List ℕ → Type 0
+RemoveRefused s k x = (x .0 ≡ removed.Refused k) × (x .1 ≡ s)
+
+abbrev pub RemoveRight : Numbers → ℕ → List ℕ → List ℕ → Removed × List ℕ → Type 0
+RemoveRight n hash s l x = Removes n (fingerprintOf n hash) l s (x .0) (x .1)
+
+module _ (n : Numbers) (hash most : ℕ) (s : List ℕ) where
+  pub insert-refused-one : (k : ℕ) (x y : Inserted × List ℕ) → InsertRefused s k x → InsertRefused s k y → x ≡ y
+  insert-refused-one k x y p q = alike x y p q
+
+  pub insert-right-one : (l : List ℕ) → HoldsOf n s l → (x y : Inserted × List ℕ) → InsertRight n hash most s l x → InsertRight n hash most s l y → x ≡ y
+  insert-right-one l _ x y p q = go (decLe (max 1 most) (copies (fingerprintOf n hash) l)) (decLe (capacity (n .qbits)) (n .len))
+    where
+      go : Dec (max 1 most ≤ copies (fingerprintOf n hash) l) → Dec (capacity (n .qbits) ≤ n .len) → x ≡ y
+      go (yes c) d = alike x y (p .enough c) (q .enough c)
+      go (no c) (yes d) = alike x y (p .full (omega arith) d) (q .full (omega arith) d)
+      go (no c) (no d) = alike x y (p .added (omega arith) (omega arith)) (q .added (omega arith) (omega arith))
+
+  pub insert-fingerprint-counting-pinned : (a b : Inserted) (t u : List ℕ) → Insert n hash most s a t → Insert n hash most s b u → (a ≡ b) × (t ≡ u)
+  insert-fingerprint-counting-pinned a b t u p q =
+      apart (a, t) (b, u) (checked-one (InsertRefused s) (InsertRight n hash most s) _ _ _ _ s insert-refused-one insert-right-one (a, t) (b, u) p q)
+
+  pub insert-fingerprint-counting-quick-pinned : Settled n s → (a b : Inserted) (t u : List ℕ) → InsertQuick n hash most s a t → InsertQuick n hash most s b u → (a ≡ b) × (t ≡ u)
+  insert-fingerprint-counting-quick-pinned d a b t u p q =
+      apart (a, t) (b, u) (quick-one (InsertRefused s) (InsertRight n hash most s) _ _ _ _ s insert-refused-one insert-right-one (λ x. Inside s (x .1)) d (a, t) (b, u) p q)
+
+module _ (n : Numbers) (hash : ℕ) (s : List ℕ) where
+  pub remove-refused-one : (k : ℕ) (x y : Removed × List ℕ) → RemoveRefused s k x → RemoveRefused s k y → x ≡ y
+  remove-refused-one k x y p q = alike x y p q
+
+  pub remove-right-one : (l : List ℕ) → HoldsOf n s l → (x y : Removed × List ℕ) → RemoveRight n hash s l x → RemoveRight n hash s l y → x ≡ y
+  remove-right-one l _ x y p q = go (eq-zero-or-pos (copies (fingerprintOf n hash) l))
+    where
+      go : (copies (fingerprintOf n hash) l ≡ 0) ⊎ (0 < copies (fingerprintOf n hash) l) → x ≡ y
+      go (inl c) = alike x y (p .absent c) (q .absent c)
+      go (inr c) = alike x y (p .gone c) (q .gone c)
+
+  pub remove-fingerprint-pinned : (a b : Removed) (t u : List ℕ) → Remove n hash s a t → Remove n hash s b u → (a ≡ b) × (t ≡ u)
+  remove-fingerprint-pinned a b t u p q =
+      apart (a, t) (b, u) (checked-one (RemoveRefused s) (RemoveRight n hash s) _ _ _ _ s remove-refused-one remove-right-one (a, t) (b, u) p q)
+
+  pub remove-fingerprint-quick-pinned : Settled n s → (a b : Removed) (t u : List ℕ) → RemoveQuick n hash s a t → RemoveQuick n hash s b u → (a ≡ b) × (t ≡ u)
+  remove-fingerprint-quick-pinned d a b t u p q =
+      apart (a, t) (b, u) (quick-one (RemoveRefused s) (RemoveRight n hash s) _ _ _ _ s remove-refused-one remove-right-one (λ x. Inside s (x .1)) d (a, t) (b, u) p q)
+
+-- ---- steps of a listing
+-- a number 1 to 5 is due, or none remain, or the buffer is sound and the place is one of the list held
+abbrev pub Fixed : Numbers → List ℕ → Place → Type 0
+Fixed n s p = (0 < lowestDue n s) ⊎ ((p ≡ nowhere) ⊎ ((l : List ℕ) × (k : ℕ) × HoldsOf n s l × (p ≡ placeOf (n .qbits) (n .rbits) l k)))
+
+pub step-from-pinned : (n : Numbers) (s : List ℕ) (p : Place) → Fixed n s p → (a b : Stepped) → Listed n s p a → Listed n s p b → a ≡ b
+step-from-pinned n s p f a b x y = go f (eq-zero-or-pos (lowestDue n s))
+  where
+    go : Fixed n s p → (lowestDue n s ≡ 0) ⊎ (0 < lowestDue n s) → a ≡ b
+    go f (inr d) = x .refused d ∙ sym (y .refused d)
+    go (inl d) (inl e) = absurd (omega arith)
+    go (inr (inl z)) (inl e) = x .stays e z ∙ sym (y .stays e z)
+    go (inr (inr z)) (inl e) = x .right e (z .0) (z .2) (z .1) (z .3) ∙ sym (y .right e (z .0) (z .2) (z .1) (z .3))
+
+-- the step with the place lent: the answer, and the place afterwards
+pub step-on-pinned : (n : Numbers) (s : List ℕ) (p : Place) → Fixed n s p → (a b : Step) (p₁ p₂ : Place) → Listed n s p (stepped a p₁) → Listed n s p (stepped b p₂) → (a ≡ b) × (p₁ ≡ p₂)
+step-on-pinned n s p f a b p₁ p₂ x y = (ap (λ (z : Stepped). z .step) one, ap (λ (z : Stepped). z .place) one)
+  where
+    one : stepped a p₁ ≡ stepped b p₂
+    one = step-from-pinned n s p f _ _ x y
+
+-- a step from a place that is pinned down leaves one that is
+fixed-next : (n : Numbers) (s : List ℕ) (p : Place) → Fixed n s p → (a : Stepped) → Listed n s p a → Fixed n s (a .place)
+fixed-next n s p f a x = go f (eq-zero-or-pos (lowestDue n s))
+  where
+    go : Fixed n s p → (lowestDue n s ≡ 0) ⊎ (0 < lowestDue n s) → Fixed n s (a .place)
+    go f (inr d) = inl d
+    go (inl d) (inl e) = inl d
+    go (inr (inl z)) (inl e) = inr (inl (ap (λ (y : Stepped). y .place) (x .stays e z)))
+    go (inr (inr z)) (inl e) =
+        inr (inr (z .0, suc (z .1), z .2, ap (λ (y : Stepped). y .place) (x .right e (z .0) (z .2) (z .1) (z .3)) ∙ step-place (n .qbits) (n .rbits) (z .0) (z .1)))
+
+-- ---- the reader
+pub reader-new-pinned : (s : RefT (List ℕ)) (n : Numbers) (p : Place) (a b : Reader)
+    → (a .buf ≡ s) × (a .numbers ≡ n) × (a .place ≡ p) → (b .buf ≡ s) × (b .numbers ≡ n) × (b .place ≡ p) → a ≡ b
+reader-new-pinned s n p a b x y = λ i. record { buf = (x .0 ∙ sym (y .0)) i; numbers = (x .1 ∙ sym (y .1)) i; place = (x .2 ∙ sym (y .2)) i }
+
+pub next-pinned : (r : Reader) → Fixed (r .numbers) (now (r .buf)) (r .place) → (a b : Step) (r₁ r₂ : Reader) → Moved r a r₁ → Moved r b r₂ → (a ≡ b) × (r₁ ≡ r₂)
+next-pinned r f a b r₁ r₂ x y =
+    (ap (λ (z : Stepped). z .step) one, x .kept ∙ ap (λ (z : Stepped). record { buf = r .buf; numbers = r .numbers; place = z .place }) one ∙ sym (y .kept))
+  where
+    one : stepped a (r₁ .place) ≡ stepped b (r₂ .place)
+    one = step-from-pinned (r .numbers) (now (r .buf)) (r .place) f _ _ (x .listed) (y .listed)
+
+pub next-two-pinned : (n : Numbers) (s : List ℕ) (p : Place) → Fixed n s p → (a b : Two) → TwoListed n s p a → TwoListed n s p b → a ≡ b
+next-two-pinned n s p f a b x y = λ i. record { first = one i .step; second = two i .step; place = two i .place }
+  where
+    one : stepped (a .first) (x .between) ≡ stepped (b .first) (y .between)
+    one = step-from-pinned n s p f _ _ (x .first) (y .first)
+
+    back : y .between ≡ x .between
+    back = sym (ap (λ (z : Stepped). z .place) one)
+
+    two : stepped (a .second) (a .place) ≡ stepped (b .second) (b .place)
+    two = step-from-pinned n s (x .between) (fixed-next n s p f _ (x .first)) _ _ (x .second) (subst (λ (m : Place). Listed n s m (stepped (b .second) (b .place))) back (y .second))

@@ -1,0 +1,41 @@
+-- `growth::wider::wider_due`: b has too few, all are added, or the count decides (specs/Wider). Assumes nothing.
+use denote.Ref.{now}
+use Rattle.growth.specs.Wider.{wider-few, wider-all, wider-room, wider-passed}
+use borrow.Author.Needs.{needs}
+use Rattle.growth.proofs.wider.wider_due.Statement.{statement}
+use Rattle.growth.proofs.wider.wider_due.Tie as tie
+
+excess-requires : tie.Need-excess-requires
+excess-requires c κs = search needs
+
+returns : tie.Need-returns
+returns c =
+    let p = c .before in
+    let a = p .before .before .before .args in
+    wider-few (a .a-shape) (now (a .a)) (a .a-len) (a .b-shape) (now (a .b)) (a .b-len) (a .keep) _ (p .excess .ensures) (c .if1 .taken)
+
+returns-2 : tie.Need-returns-2
+returns-2 c =
+    let p = c .before .before in
+    let a = p .before .before .before .args in
+    wider-all (a .a-shape) (now (a .a)) (a .a-len) (a .b-shape) (now (a .b)) (a .b-len) (a .keep) _ (p .excess .ensures) (c .before .if1 .left) (c .if2 .taken)
+
+count-added-requires : tie.Need-count-added-requires
+count-added-requires c κs = search needs
+
+returns-3 : tie.Need-returns-3
+returns-3 c =
+    let p = c .before .before .before .before in
+    let a = p .before .before .before .args in
+    wider-room (a .a-shape) (now (a .a)) (a .a-len) (a .b-shape) (now (a .b)) (a .b-len) (a .keep) _ (p .excess .ensures) _ (c .before .before .if2 .left) (c .before .count-added .ensures) (c .if3 .taken)
+
+returns-4 : tie.Need-returns-4
+returns-4 c =
+    let p = c .before .before .before .before in
+    let a = p .before .before .before .args in
+    wider-passed (a .a-shape) (now (a .a)) (a .a-len) (a .b-shape) (now (a .b)) (a .b-len) (a .keep) _ (p .excess .ensures) _ (c .before .before .if2 .left) (c .before .count-added .ensures) (c .if3 .left)
+
+pub wider-due-spec : {M : Type 1} → statement M
+wider-due-spec =
+    tie.close
+    (tie.spec excess-requires returns returns-2 count-added-requires returns-3 returns-4)

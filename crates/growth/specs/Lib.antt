@@ -1,0 +1,11 @@
+pub mod Adding
+pub mod Beyond
+pub mod Both
+pub mod Counting
+pub mod Equal
+pub mod Limits
+pub mod Merging
+pub mod Rebuilding
+pub mod Take
+pub mod Union
+pub mod Wider

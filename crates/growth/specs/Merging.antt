@@ -1,0 +1,95 @@
+-- The promises of merge, document 01.
+use Prim.Native.Nat.{ℕ, zero, suc, _+_, _-_, _<_}
+use mathlib.Core.Path.{_≡_, refl}
+use mathlib.Core.Logic.{_≢_}
+use mathlib.Core.List.{List}
+use native.Mathlib.Omega.{arith}
+use lib.ListN.{length}
+use Rattle.theory.specs.Shape.{capacity}
+use Rattle.theory.specs.Refusal.{destinationDue, orElse}
+use Rattle.theory.specs.Sound.{Holds}
+use Rattle.theory.specs.Joining.{joined, taken, wanted, joinedQbits, joinedDue, takenDue}
+use Rattle.layout.specs.declared.numbers.Numbers.{Numbers}
+use Rattle.layout.specs.declared.shape.Shape.{Shape}
+use Rattle.filter.specs.Asking.{CheckedOn, shapeOf}
+use Rattle.growth.specs.declared.rebuild.Rebuilt.{Rebuilt}
+use Rattle.growth.specs.declared.rebuild.Rebuilt.the-variants.{Refused}
+use Rattle.growth.specs.Take.{TakesIn}
+use Rattle.growth.specs.Rebuilding.{Lands}
+
+-- the list that a filter holds
+abbrev pub HeldBy : Numbers → List ℕ → List ℕ → Type 0
+HeldBy n s l = Holds (n .qbits) (n .rbits) (n .len) s l
+
+abbrev pub widthOf : Numbers → ℕ
+widthOf n = n .qbits + n .rbits
+
+-- equal widths: qbits is the smallest that is at least self's and has the capacity; 7, then 12
+abbrev pub qbitsFor : Numbers → ℕ → List ℕ → List ℕ → ℕ
+qbitsFor n keep la lb = joinedQbits (n .qbits) (n .«max_qbits») (wanted keep la lb)
+
+abbrev pub EqualTo : Numbers → ℕ → List ℕ → List ℕ → List ℕ → Rebuilt → List ℕ → Type 0
+EqualTo n keep la lb d a t =
+    let q = qbitsFor n keep la lb in
+    let r = widthOf n - q in
+    Lands (orElse (joinedDue (n .qbits) (n .«max_qbits») (wanted keep la lb)) (destinationDue q r (length d))) q r (n .«max_qbits») (joined keep la lb) d a t
+
+-- other wider: qbits stays; 7, then 12
+abbrev pub WiderTo : Numbers → ℕ → List ℕ → List ℕ → List ℕ → Rebuilt → List ℕ → Type 0
+WiderTo n keep la lb d a t =
+    let l = taken keep (n .qbits) (n .rbits) la lb in
+    Lands (orElse (takenDue (n .qbits) la l) (destinationDue (n .qbits) (n .rbits) (length d))) (n .qbits) (n .rbits) (n .«max_qbits») l d a t
+
+-- other's width is smaller: 8; or one of the two cases
+pub record MergesTo (n m : Numbers) (keep : ℕ) (la lb d : List ℕ) (a : Rebuilt) (t : List ℕ) : Type 0 where
+  pub narrower : widthOf m < widthOf n → (a ≡ Refused 8) × (t ≡ d)
+  pub equal : widthOf m ≡ widthOf n → EqualTo n keep la lb d a t
+  pub wider : widthOf n < widthOf m → WiderTo n keep la lb d a t
+
+-- self's numbers 1 to 6, other's 1 to 6, then the cases; what is refused leaves the destination as it was
+abbrev pub Merges : Numbers → List ℕ → Numbers → List ℕ → ℕ → List ℕ → Rebuilt → List ℕ → Type 0
+Merges n s m o keep d a t =
+    CheckedOn n s (λ k. (a ≡ Refused k) × (t ≡ d)) (λ la. CheckedOn m o (λ k. (a ≡ Refused k) × (t ≡ d)) (λ lb. MergesTo n m keep la lb d a t))
+
+-- ---- how the code comes to it
+abbrev pub mostOf : ℕ → ℕ
+mostOf zero = 1
+mostOf (suc keep) = 18446744073709551615
+
+pub most-all : (keep : ℕ) → keep ≢ 0 → mostOf keep ≡ 18446744073709551615
+most-all zero h = absurd (h refl)
+most-all (suc keep) h = refl
+
+-- what is promised of filters that passed 1 to 5, if both hold a list
+abbrev pub OfBoth : Numbers → List ℕ → Numbers → List ℕ → (List ℕ → List ℕ → Type 0) → Type 0
+OfBoth n s m o P = (la lb : List ℕ) → HeldBy n s la → HeldBy m o lb → P la lb
+
+pub record Wants (n : Numbers) (s : List ℕ) (m : Numbers) (o : List ℕ) (keep a : ℕ) : Type 0 where
+  pub right : OfBoth n s m o (λ la lb. a ≡ wanted keep la lb)
+
+abbrev pub MergesEqual : Numbers → List ℕ → Numbers → List ℕ → ℕ → List ℕ → Rebuilt → List ℕ → Type 0
+MergesEqual n s m o keep d a t = OfBoth n s m o (λ la lb. EqualTo n keep la lb d a t)
+
+abbrev pub MergesWider : Numbers → List ℕ → Numbers → List ℕ → ℕ → List ℕ → Rebuilt → List ℕ → Type 0
+MergesWider n s m o keep d a t = OfBoth n s m o (λ la lb. WiderTo n keep la lb d a t)
+
+abbrev pub MergesSound : Numbers → List ℕ → Numbers → List ℕ → ℕ → List ℕ → Rebuilt → List ℕ → Type 0
+MergesSound n s m o keep d a t = OfBoth n s m o (λ la lb. MergesTo n m keep la lb d a t)
+
+-- both lists taken into an empty destination, one after the other
+pub record Joins (n : Numbers) (s : List ℕ) (m : Numbers) (o : List ℕ) (keep : ℕ) (h : Shape) (d : List ℕ) (a : ℕ) (t : List ℕ) : Type 0 where
+  pub own : ℕ
+  pub between : List ℕ
+  pub first : TakesIn (shapeOf n) s (n .len) h d 0 (mostOf keep) own between
+  pub second : TakesIn (shapeOf m) o (m .len) h between own (mostOf keep) a t
+
+-- ---- the cases by width
+module _ (n : Numbers) (s : List ℕ) (m : Numbers) (o : List ℕ) (keep : ℕ) (d : List ℕ) (a : Rebuilt) (t : List ℕ) where
+  pub sound-equal : widthOf m ≡ widthOf n → MergesEqual n s m o keep d a t → MergesSound n s m o keep d a t
+  sound-equal h g la lb x y = record { narrower = λ z. absurd (omega arith); equal = λ _. g la lb x y; wider = λ z. absurd (omega arith) }
+
+  pub sound-wider : widthOf n < widthOf m → MergesWider n s m o keep d a t → MergesSound n s m o keep d a t
+  sound-wider h g la lb x y = record { narrower = λ z. absurd (omega arith); equal = λ z. absurd (omega arith); wider = λ _. g la lb x y }
+
+pub sound-narrower : (n : Numbers) (s : List ℕ) (m : Numbers) (o : List ℕ) (keep : ℕ) (d : List ℕ) → widthOf m < widthOf n → MergesSound n s m o keep d (Refused 8) d
+sound-narrower n s m o keep d h la lb x y = record { narrower = λ _. (refl, refl); equal = λ z. absurd (omega arith); wider = λ z. absurd (omega arith) }

@@ -1,0 +1,72 @@
+// A filter rebuilt in a lent destination: growth.
+ghost use mathlib.Core.Path.{_≡_};
+ghost use lib.ListN.{length};
+ghost use Rattle.theory.specs.Shape.{Widths};
+ghost use Rattle.theory.specs.Refusal.{maxDue};
+ghost use Rattle.layout.specs.Verdicts.{lowestDue};
+ghost use Rattle.growth.specs.Rebuilding.{Empties, Grows, GrowWorked};
+use crate::take::take_in;
+use layout::check::Verdict;
+use layout::check::check;
+use layout::fresh::Made;
+use layout::fresh::fresh;
+use layout::numbers::Numbers;
+use layout::shape::Shape;
+
+// The record of the filter that the destination holds then; or refused.
+pub enum Rebuilt {
+    Filter(Numbers),
+    Refused(u8),
+}
+
+// The destination is made empty; or number 12, and it stays as it was.
+pub fn empty_out(dest: &mut [u8], shape: Shape, max_qbits: u8) -> u8
+    requires { ⌜ (Widths (shape .qbits) (shape .rbits)) × (maxDue (shape .qbits) (shape .rbits) «max_qbits» ≡ 0) ⌝ }
+    ensures { λ r. ⌜ Empties (shape .qbits) (shape .rbits) (now (dest .entry)) r (now (dest .exit)) ⌝ }
+{
+    let made = fresh(dest, shape.qbits, shape.rbits, max_qbits);
+    match made {
+        Made::Fresh(n) => 0,
+        Made::Refused(k) => k,
+    }
+}
+
+// Growth of a filter that passed 1 to 6.
+fn grow(buf: &[u8], n: Numbers, dest: &mut [u8]) -> Rebuilt
+    requires { ⌜ lowestDue n (now buf) ≡ 0 ⌝ }
+    ensures { λ r. ⌜ GrowWorked n (now (buf .entry)) (now (dest .entry)) r (now (dest .exit)) ⌝ }
+{
+    if n.max_qbits <= n.qbits {
+        return Rebuilt::Refused(7);
+    }
+    let shape = Shape {
+        qbits: n.qbits,
+        rbits: n.rbits,
+    };
+    let grown = Shape {
+        qbits: n.qbits + 1,
+        rbits: n.rbits - 1,
+    };
+    let due = empty_out(dest, grown, n.max_qbits);
+    if 0 < due {
+        return Rebuilt::Refused(due);
+    }
+    let len = take_in(buf, shape, n.len, dest, grown, 0, u64::MAX);
+    Rebuilt::Filter(Numbers {
+        len,
+        qbits: grown.qbits,
+        rbits: grown.rbits,
+        max_qbits: n.max_qbits,
+    })
+}
+
+// The same holding with one more bit of quotient, in the destination; or number 1 to 6, 7, then 12.
+pub fn rebuild_grown(buf: &[u8], n: Numbers, dest: &mut [u8]) -> Rebuilt
+    ensures { λ r. ⌜ Grows n (now (buf .entry)) (now (dest .entry)) r (now (dest .exit)) ⌝ }
+{
+    let verdict = check(buf, n);
+    if let Verdict::Refused(k) = verdict {
+        return Rebuilt::Refused(k);
+    }
+    grow(buf, n, dest)
+}

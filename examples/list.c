@@ -1,0 +1,50 @@
+/* Makes a list of three retired fingerprints, looks at it, lists it, and damages a byte.
+ * `examples/run` compiles it, runs it and compares what it writes with list.stdout. */
+#include "strumblay.h"
+
+#include <stdio.h>
+
+enum { QBITS = 6, RBITS = 8, BYTES = 89 };
+
+/* Writes every fingerprint, or the number of the refusal. */
+static void list(const uint8_t *buf, strumblay_numbers n)
+{
+    strumblay_first first = strumblay_list_begin(buf, BYTES, n);
+    if (first.number != 0) {
+        printf("refused %d\n", (int)first.number);
+        return;
+    }
+    printf("sound %d\n", (int)n.len);
+    strumblay_next next = strumblay_list_step(buf, BYTES, n, first.place);
+    while (next.found) {
+        printf("%016llx\n", (unsigned long long)next.fingerprint);
+        next = strumblay_list_step(buf, BYTES, n, next.place);
+    }
+}
+
+int main(void)
+{
+    static const uint64_t retired[] = {0x0203, 0x0103, 0x0105};
+    uint8_t buf[BYTES];
+
+    printf("a buffer of %d bytes\n", (int)strumblay_buffer_len(QBITS, RBITS).value);
+    strumblay_changed changed = strumblay_fresh(QBITS, RBITS, 0, buf, BYTES);
+    for (size_t i = 0; i < sizeof retired / sizeof *retired && changed.number == 0; i++)
+        changed = strumblay_insert(buf, BYTES, changed.numbers, retired[i], 1);
+    if (changed.number != 0) {
+        printf("refused %d\n", (int)changed.number);
+        return 1;
+    }
+    strumblay_numbers n = changed.numbers;
+
+    for (uint64_t hash = 0x0104; hash <= 0x0105; hash++) {
+        strumblay_looked looked = strumblay_contains(buf, BYTES, n, hash);
+        printf("%04x held %d, compared %d\n", (int)hash, (int)looked.held, (int)looked.compared);
+    }
+    list(buf, n);
+
+    printf("one bit damaged\n");
+    buf[9] ^= 1;
+    list(buf, n);
+    return 0;
+}

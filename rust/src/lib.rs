@@ -1,0 +1,52 @@
+//! The retired list: a quotient filter in a buffer of your own, whose every call is proved.
+//!
+//! A filter holds 64-bit fingerprints, each so many times, and answers whether one is held. It
+//! may say yes to another one whose low bits are the same; it never says no to one that it holds.
+//!
+//! ```
+//! use strumblay::{Error, Filter, Widths};
+//!
+//! // For 1,000 fingerprints, with a false yes in a hundred at the most.
+//! let mut filter = Filter::new(Widths::planned(1000, 1000, 0.01)?)?;
+//! let (replaced, arriving) = (0x51_46ab, 0x9c_0e12);
+//! assert_eq!(filter.insert(replaced, 1)?, 0);
+//! assert!(filter.contains(replaced)?);
+//! assert!(!filter.contains(arriving)?);
+//!
+//! // Save the two parts; whatever comes back is checked before it is believed.
+//! let (mut buffer, numbers) = filter.into_parts();
+//! assert!(Filter::from_parts(&buffer[..], numbers).check().is_ok());
+//! buffer[0] = 9;
+//! let damaged = Filter::from_parts(&buffer[..], numbers);
+//! assert_eq!(damaged.contains(replaced), Err(Error::NOT_SOUND));
+//! # Ok::<(), Error>(())
+//! ```
+//!
+//! # Checked and quick
+//! A call checks the whole filter, [`Error`] numbers 1 to 6, and then works. A call that ends in
+//! `_quick` asks 1 to 5, which takes no time, and trusts the buffer: after one [`Filter::check`]
+//! it gives the same answers. On a buffer that is not sound it ends and touches nothing else, but
+//! its answer and what it writes in the buffer may be anything. No call panics, though one that
+//! makes a buffer of its own needs the memory; a refused one has changed nothing.
+//!
+//! # Buffers
+//! [`Filter<B>`](Filter) works over a `Vec<u8>` of its own, over `&mut [u8]`, and for reading over
+//! `&[u8]`. Beside the buffer it has a record of [`Numbers`]. Equal widths and equal contents mean
+//! equal bytes, in whatever order they were inserted.
+#![no_std]
+
+extern crate alloc;
+
+mod error;
+#[allow(unsafe_code)]
+mod ffi;
+mod filter;
+#[cfg(feature = "growth")]
+mod growth;
+mod listing;
+mod planning;
+
+pub use error::{Error, Result};
+pub use filter::{Filter, Lookup, Numbers};
+pub use listing::{Fingerprints, Place};
+pub use planning::{Specs, Widths, filter_specs, select, slots_for};

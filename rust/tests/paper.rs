@@ -1,0 +1,143 @@
+//! Document 01's examples and refusals, through this crate.
+
+use strumblay::{Error, Filter, Lookup, Numbers, Place, Widths};
+
+const SMALL: Widths = Widths::new(6, 8);
+
+fn of(hashes: &[u64]) -> Filter<Vec<u8>> {
+    let mut filter = Filter::new(SMALL).unwrap();
+    for &hash in hashes {
+        filter.insert(hash, u64::MAX).unwrap();
+    }
+    filter
+}
+
+/// The bytes that are not 0, with their indices.
+fn set<B: AsRef<[u8]>>(filter: &Filter<B>) -> Vec<(usize, u8)> {
+    filter.buffer().iter().copied().enumerate().filter(|&(_, byte)| byte != 0).collect()
+}
+
+#[test]
+fn lengths() {
+    for (qbits, rbits, bytes) in [(6, 8, 89), (6, 58, 489), (7, 8, 170)] {
+        assert_eq!(Widths::new(qbits, rbits).buffer_len(), Ok(bytes));
+    }
+    assert_eq!(Widths::new(60, 4).buffer_len(), Err(Error::WIDTHS));
+}
+
+#[test]
+fn three_held() {
+    let filter = of(&[0x0203, 0x0105, 0x0103]);
+    assert_eq!(set(&filter), [(1, 6), (9, 0x0c), (18, 3), (19, 5), (20, 3)]);
+    assert!(filter.fingerprints().unwrap().eq([0x0103, 0x0105, 0x0203]));
+    assert_eq!(filter.lookup(0x0105), Ok(Lookup { held: true, compared: 2 }));
+    assert_eq!(filter.lookup_quick(0x0104), Ok(Lookup { held: false, compared: 2 }));
+}
+
+#[test]
+fn a_run_that_wraps() {
+    let filter = of(&[0x3f07; 3]);
+    assert_eq!(set(&filter), [(0, 2), (8, 0x80), (9, 2), (17, 7), (18, 7), (80, 7)]);
+    assert_eq!(filter.count(0x3f07), Ok(3));
+    assert_eq!(filter.count_quick(0x3f06), Ok(0));
+    let mut places = Vec::new();
+    let mut listing = filter.fingerprints().unwrap();
+    while listing.next().is_some() {
+        places.push((listing.place(), listing.len()));
+    }
+    let at = |slot, remaining| Place { quotient: 0x3f, slot, remaining };
+    assert_eq!(places, [(at(0, 2), 2), (at(1, 1), 1), (Place::default(), 0)]);
+    assert_eq!(listing.next(), None);
+}
+
+#[test]
+fn capacity_and_counts() {
+    let mut filter = of(&[]);
+    for hash in 0..61 {
+        assert_eq!(filter.insert_quick(hash, 0), Ok(0));
+    }
+    let full = filter.clone();
+    assert_eq!(filter.insert(61, 1), Err(Error::NO_ROOM));
+    assert_eq!(filter.insert(60, 0), Ok(1));
+    assert_eq!(filter.insert_quick(60, 2), Err(Error::NO_ROOM));
+    assert_eq!(filter, full);
+}
+
+#[test]
+fn refusals_in_order() {
+    let buffer = of(&[0x0103]).into_parts().0;
+    let check = |buffer: &[u8], len, qbits, max_qbits| {
+        Filter::from_parts(buffer, Numbers { len, qbits, rbits: 8, max_qbits }).check()
+    };
+    assert_eq!(check(&buffer, 1, 6, 0), Ok(()));
+    assert_eq!(check(&buffer[..0], 65, 5, 5), Err(Error::WIDTHS));
+    assert_eq!(check(&buffer[..88], 65, 6, 5), Err(Error::BUFFER_LENGTH));
+    assert_eq!(check(&buffer, 65, 6, 5), Err(Error::TOO_MANY));
+    assert_eq!(check(&buffer, 64, 6, 5), Err(Error::MAX_QBITS));
+    assert_eq!(check(&buffer, 64, 6, 0), Err(Error::NO_EMPTY_SLOT));
+    assert_eq!(check(&buffer, 2, 6, 0), Err(Error::NOT_SOUND));
+}
+
+#[test]
+fn refused_calls_change_nothing() {
+    let (mut buffer, numbers) = of(&[0x0103, 0x0105]).into_parts();
+    buffer[88] = 1;
+    let mut damaged = Filter::from_parts(buffer.clone(), numbers);
+    assert_eq!(damaged.insert(0x0203, 1), Err(Error::NOT_SOUND));
+    assert_eq!(damaged.contains(0x0103), Err(Error::NOT_SOUND));
+    assert_eq!(damaged.count(0x0103), Err(Error::NOT_SOUND));
+    assert_eq!(damaged.fingerprints().err(), Some(Error::NOT_SOUND));
+    assert_eq!(damaged.into_parts(), (buffer.clone(), numbers));
+
+    let short = Filter::from_parts(&buffer[1..], numbers);
+    let mut place = Place { quotient: 9, slot: 9, remaining: 9 };
+    assert_eq!(short.step(&mut place), Err(Error::BUFFER_LENGTH));
+    assert_eq!(place, Place { quotient: 9, slot: 9, remaining: 9 });
+    assert_eq!(short.contains_quick(0x0103), Err(Error::BUFFER_LENGTH));
+    assert_eq!(Filter::fresh(&mut buffer[1..], SMALL).err(), Some(Error::DESTINATION_LENGTH));
+}
+
+#[test]
+fn planning() {
+    let most = 547_637_714_688_252_314;
+    assert_eq!(strumblay::slots_for(most), Ok(1 << 59));
+    assert_eq!(strumblay::slots_for(most + 1), Err(Error::CAPACITY_TOO_LARGE));
+    assert_eq!(strumblay::filter_specs(most, 0.01), Err(Error::TOO_WIDE));
+    assert_eq!(Widths::planned(2, 1, 0.01), Err(Error::MAXIMUM_BELOW_INITIAL));
+    assert_eq!(Widths::planned(61, 61, f64::NAN), Ok(Widths::new(6, 1)));
+}
+
+#[cfg(feature = "remove")]
+#[test]
+fn four_hundred_and_one_removed() {
+    let mut filter = Filter::new(Widths::new(9, 8)).unwrap();
+    for hash in 0..400 {
+        filter.insert_quick(hash % 256, u64::MAX).unwrap();
+    }
+    let offsets = |filter: &Filter<Vec<u8>>| -> Vec<u8> {
+        filter.buffer().chunks_exact(81).map(|block| block[0]).collect()
+    };
+    assert_eq!(offsets(&filter), [0, 255, 255, 208, 144, 80, 16, 0]);
+    assert_eq!(filter.remove(0), Ok(true));
+    assert_eq!(offsets(&filter), [0, 255, 255, 207, 143, 79, 15, 0]);
+    assert_eq!(filter.remove_quick(256 << 8), Ok(false));
+}
+
+#[cfg(feature = "growth")]
+#[test]
+fn growth_and_merge() {
+    let filter = of(&[0x0103, 0x0105]);
+    assert_eq!(filter.grown(), Err(Error::NO_ROOM));
+    let narrow = Filter::new(Widths::new(6, 7)).unwrap();
+    assert_eq!(filter.merged(&narrow, true), Err(Error::NARROWER));
+    assert_eq!(filter.merge_into(&filter, true, [0; 88]).err(), Some(Error::DESTINATION_LENGTH));
+    assert_eq!(filter.merged(&filter, true).unwrap().count(0x0105), Ok(2));
+    assert_eq!(filter.merged(&filter, false).unwrap(), filter);
+
+    let (buffer, numbers) = filter.into_parts();
+    let mut many = Filter::from_parts(buffer, Numbers { max_qbits: 8, ..numbers });
+    for hash in 0..121 {
+        many.insert_growing(hash << 6, 1).unwrap();
+    }
+    assert_eq!((many.len(), many.numbers().qbits), (123, 8));
+}
