@@ -1,6 +1,6 @@
 -- Where a run starts, told from slot x on: behind the runends of the runs that are not over there.
-use Prim.Native.Nat.{ℕ, zero, suc, _+_, _-_, _*_, _/_, _%_, _^_, _≤_, _<_, min}
-use mathlib.Core.Path.{_≡_, refl, sym, ap, _∙_}
+use Prim.Native.Nat.{ℕ, zero, suc, _+_, _-_, _*_, _/_, _%_, _^_, _≤_, _<_}
+use mathlib.Core.Path.{_≡_, sym, ap, _∙_}
 use mathlib.Core.Logic.{_⊎_, inl, inr}
 use native.Mathlib.Omega.{arith}
 use native.Mathlib.Nat.{add-mod-right, mod-eq-of-lt, mod-lt, eq-zero-or-pos, add-zero}
@@ -8,7 +8,7 @@ use lib.Arith.{mod-mul}
 use Rattle.theory.specs.tools.Total.{total, total-suc, total-le, select-unique}
 use Rattle.theory.specs.number.Field.{field, field-lt}
 use Rattle.theory.specs.number.Count.{rank, rank-low, rank-suc, rank-mod, rank-zero}
-use Rattle.theory.specs.Image.{Views, carry, start, occ}
+use Rattle.theory.specs.Image.{Views, carry, start}
 use Rattle.theory.specs.carry.Carry.{start-carry}
 use Rattle.theory.specs.layout.Block.{views, wordAt, offsetAt}
 use Rattle.theory.specs.layout.Ring.{ringAt, ring-bit, ring-rank, high-one}
@@ -17,7 +17,7 @@ use Rattle.theory.specs.layout.RunEnd.{shifted-end}
 use Rattle.theory.specs.layout.Offsets.{Offsets, carry-lt}
 use Rattle.theory.specs.layout.Behind.{Runs, occupied-count}
 use Rattle.bits.specs.Select.{Selected}
-use Rattle.bits.specs.declared.select.Found.the-variants.{At, Nothing}
+use Rattle.bits.specs.declared.select.Found.the-variants.{At}
 use Rattle.filter.specs.Runs.{RunStart}
 
 -- the runend bits round and round

@@ -168,8 +168,8 @@ fn start_past(buf: &[u8], shape: Shape, x: u64, n: u64) -> u64
     (p + 1) % shape.slots()
 }
 
-// The first slot of the run of x. Where the runs from before its block end before slot x, the runends from there on are few:
-// as many as runs of the block that are not over. They are dropped from the word that starts at x, shifted up by one so that x itself counts.
+// The first slot of the run of x. Where no run from before the block reaches slot x, it is the one behind the runends of those of the block's runs
+// that are not over at x. They are few, and mostly in its word, which is shifted up by one from x on, with a one below for x itself.
 pub fn run_start(buf: &[u8], shape: Shape, x: u64) -> u64
     requires { ⌜ (Whole shape (length (now buf))) × (x < slots (shape .qbits)) ⌝ }
     ensures { λ r. ⌜ RunStart (slots (shape .qbits)) (views (shape .rbits) (le (now (buf .entry)))) x r ⌝ }

@@ -1,6 +1,6 @@
 -- `bits::count::ones_between`: the mask keeps the digits below j, and shifted down those from i on are the lowest. Assumes nothing.
-use Prim.Native.Nat.{_+_, _-_, _/_, _^_, _%_, _<_}
-use mathlib.Core.Path.{_≡_, _∙_, ap, sym}
+use Prim.Native.Nat.{_+_, _-_, _/_, _^_, _%_}
+use mathlib.Core.Path.{_≡_, _∙_, ap}
 use native.Mathlib.Omega.{arith}
 use native.Mathlib.Nat.{mod-lt}
 use lib.Bits.{bitAnd, and-mask}

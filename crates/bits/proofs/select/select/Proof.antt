@@ -1,11 +1,11 @@
 -- `bits::select::select`: where more than n ones stand, n are cleared and the lowest left is the n-th. Assumes nothing.
-use Prim.Native.Nat.{ℕ, _+_, _-_, _^_, _≤_, _<_}
+use Prim.Native.Nat.{_-_, _≤_, _<_}
 use mathlib.Core.Path.{_≡_}
 use mathlib.Core.Logic.{_⊎_, inl, inr}
 use native.Mathlib.Nat.{eq-zero-or-pos}
 use native.Mathlib.Omega.{arith}
 use lib.Count.{trailing-le}
-use Rattle.theory.specs.number.Count.{rank, rank-none}
+use Rattle.theory.specs.number.Count.{rank-none}
 use Rattle.theory.specs.number.Lowest.{lowest, nth}
 use Rattle.bits.specs.Select.{Cleared, cleared-more}
 use borrow.Author.Needs.{needs}

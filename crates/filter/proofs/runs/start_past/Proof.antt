@@ -1,12 +1,12 @@
 -- `filter::runs::start_past`: the n-th runend from slot x on is met within a round. Assumes nothing.
-use Prim.Native.Nat.{_+_, _-_, _≤_}
-use mathlib.Core.Path.{_≡_, subst}
+use Prim.Native.Nat.{_≤_}
+use mathlib.Core.Path.{subst}
 use native.Mathlib.Omega.{arith}
 use Rattle.theory.specs.Shape.{slots}
 use Rattle.theory.specs.layout.Sizes.{slots-blocks, slots-high}
 use Rattle.filter.specs.Near.{start-told, start-missing}
 use Rattle.filter.specs.Runs.{NthRunend}
-use Rattle.bits.specs.declared.select.Found.the-variants.{At, Nothing}
+use Rattle.bits.specs.declared.select.Found.the-variants.{At}
 use borrow.Author.Needs.{needs}
 use Rattle.filter.proofs.runs.start_past.Statement.{statement}
 use Rattle.filter.proofs.runs.start_past.Tie as tie
