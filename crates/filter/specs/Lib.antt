@@ -6,6 +6,7 @@ pub mod Leaving
 pub mod Listing
 pub mod Lookup
 pub mod Moving
+pub mod Near
 pub mod Occupied
 pub mod Offsets
 pub mod Pinned
