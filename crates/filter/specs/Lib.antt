@@ -1,8 +1,5 @@
 pub mod Answers
 pub mod Asking
-pub mod Insert
-pub mod Kept
-pub mod Leaving
 pub mod Listing
 pub mod Lookup
 pub mod Moving
@@ -12,11 +9,6 @@ pub mod Offsets
 pub mod Pinned
 pub mod Places
 pub mod Reading
-pub mod Remove
 pub mod Runs
 pub mod Scan
-pub mod Shifted
-pub mod Spots
 pub mod Steps
-pub mod Traces
-pub mod Writing
