@@ -183,6 +183,7 @@ pub fn run_start(buf: &[u8], shape: Shape, x: u64) -> u64
     let word = slot::runends(buf, shape, b);
     let begun = bits::count::ones_below(slot::occupieds(buf, shape, b), i);
     let over = bits::count::ones_between(word, o, i);
+    // On a damaged buffer only.
     if begun < over {
         return x;
     }
