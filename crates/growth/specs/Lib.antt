@@ -1,7 +1,9 @@
 pub mod Adding
 pub mod Counting
+pub mod Growing
 pub mod Merging
 pub mod Rebuilding
+pub mod Spare
 pub mod Take
 pub mod Union
 pub mod Wider

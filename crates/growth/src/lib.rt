@@ -2,6 +2,7 @@
 pub mod adding;
 pub mod merge;
 pub mod rebuild;
+pub mod spare;
 pub mod take;
 pub mod union;
 pub mod wider;
