@@ -1,6 +1,7 @@
 pub mod Adding
 pub mod Counting
 pub mod Growing
+pub mod Holder
 pub mod Merging
 pub mod Rebuilding
 pub mod Spare

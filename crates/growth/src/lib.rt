@@ -1,5 +1,6 @@
 // Growth, merge and insert with a spare, over the filter's promises.
 pub mod adding;
+pub mod holder;
 pub mod merge;
 pub mod rebuild;
 pub mod spare;
