@@ -3,9 +3,13 @@ pub mod Beyond
 pub mod Both
 pub mod Counting
 pub mod Equal
+pub mod Growing
+pub mod Holder
 pub mod Limits
+pub mod Merged
 pub mod Merging
 pub mod Rebuilding
+pub mod Spare
 pub mod Take
 pub mod Union
 pub mod Wider

@@ -1,0 +1,35 @@
+-- `growth::spare::insert_with_spare_quick`: the plain quick insert, and what its answer leads to. Assumes nothing.
+use denote.Ref.{now}
+use Rattle.growth.specs.Spare.{settled-quick}
+use borrow.Author.Needs.{needs}
+use Rattle.growth.proofs.spare.insert_with_spare_quick.Statement.{statement}
+use Rattle.growth.proofs.spare.insert_with_spare_quick.Tie as tie
+
+insert-fingerprint-counting-quick-requires : tie.Need-insert-fingerprint-counting-quick-requires
+insert-fingerprint-counting-quick-requires c κs = search needs
+
+settle-requires : tie.Need-settle-requires
+settle-requires c κs = search needs
+
+same-length : tie.Need-same-length
+same-length c = search needs
+
+same-length-2 : tie.Need-same-length-2
+same-length-2 c = search needs
+
+returns : tie.Need-returns
+returns c =
+    let e = c .before .before in
+    let i = e .before .before .before .before .before in
+    let a = i .before .before .before .before .args in
+    settled-quick (a .n) (a .hash) (a .max-count) (now (a .buf)) (now (a .spare)) _ _ _ _ (e .settle .ensures) (e .settle .kept .1 .1 .1 .1 .1 .0) (i .insert-fingerprint-counting-quick .ensures)
+
+pub insert-with-spare-quick-spec : {M : Type 1} → statement M
+insert-with-spare-quick-spec =
+    tie.close
+    (tie.spec
+    insert-fingerprint-counting-quick-requires
+    settle-requires
+    same-length
+    same-length-2
+    returns)
