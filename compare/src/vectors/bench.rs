@@ -48,6 +48,10 @@ fn numbers(len: u64, widths: u64) -> Numbers {
     Numbers { len, qbits, rbits, max_qbits }
 }
 
+fn shown(n: Numbers) -> String {
+    format!("{} {} {} {}", n.len, n.qbits, n.rbits, n.max_qbits)
+}
+
 impl Lent {
     fn new() -> Lent {
         Lent { numbers: Numbers::default(), size: 0, room: vec![0; ROOM] }
@@ -109,6 +113,11 @@ impl Bench {
                 format!(" {} {:08x}", self.own.numbers.len, self.own.sum())
             }
             'g' | 'j' => format!(" {:08x}", self.dest.sum()),
+            'p' | 'P' => {
+                let (own, dest) = (self.own.sum(), self.dest.sum());
+                let holder = if answer.starts_with("spare") { dest } else { own };
+                format!(" {own:08x} {dest:08x} {holder:08x}")
+            }
             's' | 'S' => self.listing.place(),
             _ => String::new(),
         };
@@ -133,6 +142,7 @@ impl Bench {
             'a' | 'x' => self.many(kind, x, y, z),
             'b' => Ok(self.damage(x, y)),
             'g' => self.grow(x),
+            'p' | 'P' => self.insert_with_spare(kind, x, y, z),
             'j' => self.merge(x, y),
             _ => Ok(self.arrange(kind, x, y, z)),
         }
@@ -202,6 +212,29 @@ impl Bench {
         self.rebuilt(&grown)
     }
 
+    /// The growth hidden in the original's insert.
+    fn insert_with_spare(
+        &mut self,
+        kind: char,
+        hash: u64,
+        max_count: u64,
+        size: u64,
+    ) -> Result<String, u64> {
+        self.dest.size = size;
+        self.sound(kind)?;
+        let mut filter = self.own.original();
+        let count = filter.insert_fingerprint_counting(max_count, hash).map_err(number_of)?;
+        let n = numbers_of(&filter);
+        let grown = n.qbits != self.own.numbers.qbits;
+        if grown {
+            self.dest.take(&filter)?
+        } else {
+            self.own.take(&filter)?
+        }
+        let place = if grown { "spare" } else { "old" };
+        Ok(format!("{place} {count} {}", shown(n)))
+    }
+
     fn merge(&mut self, size: u64, keep: u64) -> Result<String, u64> {
         self.dest.size = size;
         self.own.check()?;
@@ -213,8 +246,7 @@ impl Bench {
 
     fn rebuilt(&mut self, filter: &qfilter::Filter) -> Result<String, u64> {
         self.dest.take(filter)?;
-        let n = self.dest.numbers;
-        Ok(format!("filter {} {} {} {}", n.len, n.qbits, n.rbits, n.max_qbits))
+        Ok(format!("filter {}", shown(self.dest.numbers)))
     }
 
     /// What calls nothing: a record given, and buffers that change places.

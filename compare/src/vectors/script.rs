@@ -27,6 +27,7 @@ pub fn replayed() -> Bench {
     }
     refusals(&mut bench);
     growths(&mut bench);
+    spares(&mut bench);
     merges(&mut bench);
     bench
 }
@@ -188,6 +189,7 @@ fn refusals(bench: &mut Bench) {
 fn refused(bench: &mut Bench) {
     each(bench, ['k', 'c', 'n', 'm', 'l'].map(|kind| Line(kind, 0x101, 0, 0)));
     each(bench, [Line('i', 0x101, MAX, 0), Line('g', 170, 0, 0), Line('j', 89, 1, 0)]);
+    bench.call(Line('p', 0x101, MAX, 170));
 }
 
 fn growths(bench: &mut Bench) {
@@ -207,6 +209,22 @@ fn growths(bench: &mut Bench) {
     each(bench, [Line('k', 0, 0, 0), Line('g', 300, 0, 0)]);
     fresh(bench, Shape { qbits: 6, rbits: 8 }, 0);
     bench.call(Line('g', 170, 0, 0));
+}
+
+/// Inserts with a spare: in the old buffer up to capacity, then in a spare of the right length.
+fn spares(bench: &mut Bench) {
+    let (small, large) = (Shape { qbits: 6, rbits: 8 }, Shape { qbits: 7, rbits: 7 });
+    let grown = large.buffer_len();
+    fresh(bench, small, 7);
+    each(bench, [Line('a', 0x0201, SPREADING, 59), Line('p', 0x0201, 1, grown)]);
+    each(bench, [Line('p', 0x0202, MAX, 0), Line('P', 0x0203, MAX, grown)]);
+    // Full: enough copies need no room, and the spare is looked at only then.
+    each(bench, [Line('p', 0x0203, 1, 0), Line('p', 0x0204, 1, grown - 1)]);
+    each(bench, [Line('p', 0x0204, 1, grown), Line('P', 0x0203, 2, grown), Line('d', 0, 0, 0)]);
+    each(bench, [Line('k', 0, 0, 0), Line('n', 0x0203, 0, 0), Line('p', 0x0204, 1, 300)]);
+    each(bench, [Line('a', 0x0301, SPREADING, 122), Line('p', 0x3f00, MAX, 300)]);
+    bench.call(Line('r', 128, widths(7, 7, 7), grown));
+    each(bench, [Line('p', 0, 1, 300), Line('P', 0, 1, 300)]);
 }
 
 /// The filter of these hashes as the other one.
@@ -240,7 +258,7 @@ fn merges(bench: &mut Bench) {
     other(bench, Shape { qbits: 6, rbits: 7 }, 0x105, 0x33, 30);
     fresh(bench, small, 0);
     each(bench, [Line('a', 0x105, 0x66, 61), Line('j', 89, 1, 0), Line('j', 0, 0, 0)]);
-    each(bench, [Line('o', 0, 0, 0), Line('b', 88, 1, 0), Line('o', 0, 0, 0), Line('j', 89, 1, 0)]);
+    each(bench, [Line('o', 0, 0, 0), Line('b', 80, 1, 0), Line('o', 0, 0, 0), Line('j', 89, 1, 0)]);
     each(bench, [Line('r', 64, widths(6, 8, 0), 89), Line('j', 0, 1, 0), Line('o', 0, 0, 0)]);
-    each(bench, [Line('j', 0, 1, 0), Line('b', 88, 0, 0), Line('j', 0, 1, 0), Line('k', 0, 0, 0)]);
+    each(bench, [Line('j', 0, 1, 0), Line('b', 80, 0, 0), Line('j', 0, 1, 0), Line('k', 0, 0, 0)]);
 }

@@ -1,18 +1,16 @@
 // Replays a list of calls from standard input and writes a line for each answer, so that the gate tests the compiled code. The file `stdout` has what
 // the original answered: compare/README.md says how it is made. A driver promises nothing of its own but that each call is safe and ends.
 use bench::Bench;
-use bench::Lent;
-use layout::numbers::Numbers;
 use script::Call;
 
 mod bench;
+mod changing;
 mod listing;
 mod planning;
 mod reading;
 mod rebuilding;
 mod say;
 mod script;
-mod writing;
 
 // The bytes of each of the three buffers; 9/55 needs 3664.
 pub const ROOM: usize = 4096;
@@ -39,16 +37,17 @@ fn run(
             bench
         }
         b'l' | b's' | b'S' => bench.with_place(listing::answer(call, bench.own, own, bench.place)),
-        b'f' | b'i' | b'I' | b'm' | b'M' | b'a' | b'x' => bench.with_own(writing::answer(
+        b'f' | b'i' | b'I' | b'm' | b'M' | b'a' | b'x' => bench.with_own(changing::answer(
             call,
             bench.own,
             own,
         )),
         b'b' => {
             bench::damage(call, own);
-            bench.with_own(writing::answer(call, bench.own, own))
+            bench.with_own(changing::answer(call, bench.own, own))
         }
         b'g' => bench.with_dest(rebuilding::grow(call, bench, own, dest)),
+        b'p' | b'P' => rebuilding::spare(call, bench, own, dest),
         b'j' => bench.with_dest(rebuilding::merge(call, bench, own, other, dest)),
         b'r' => bench.with_own(bench::record(call)),
         b'o' => {

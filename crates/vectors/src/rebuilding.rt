@@ -1,10 +1,12 @@
-// Growth and merge into the destination.
+// Growth, insert with a spare, and merge: the destination is lent, and is the spare too.
 use crate::bench::Bench;
 use crate::bench::Lent;
 use crate::bench::part;
 use crate::say;
 use crate::script::Call;
+use growth::holder::holder;
 use growth::rebuild::Rebuilt;
+use growth::spare::Placed;
 use layout::numbers::Numbers;
 
 fn say_rebuilt(n: Numbers, rebuilt: Rebuilt) -> Numbers {
@@ -36,6 +38,77 @@ pub fn grow(call: Call, bench: Bench, own: &[u8], dest: &mut [u8]) -> Lent {
         numbers,
         size: call.x,
     }
+}
+
+// `P` is quick.
+fn place(call: Call, buf: &mut [u8], n: Numbers, spare: &mut [u8]) -> Placed {
+    if call.kind == b'p' {
+        return growth::spare::insert_with_spare(buf, n, call.x, call.y, spare);
+    }
+    growth::spare::insert_with_spare_quick(buf, n, call.x, call.y, spare)
+}
+
+// Which buffer counts, and its record there.
+fn say_placed(placed: Placed, bench: Bench) -> Bench {
+    let own = bench.own;
+    let dest = bench.dest;
+    match placed {
+        Placed::InOld(m, numbers) => {
+            say::word(b"old");
+            say::number(m);
+            say::number(numbers.len);
+            say::widths(numbers);
+            bench.with_own(Lent {
+                numbers,
+                size: own.size,
+            })
+        }
+        Placed::InSpare(m, numbers) => {
+            say::word(b"spare");
+            say::number(m);
+            say::number(numbers.len);
+            say::widths(numbers);
+            bench.with_dest(Lent {
+                numbers,
+                size: dest.size,
+            })
+        }
+        Placed::Refused(k) => {
+            say::refused(k);
+            bench
+        }
+    }
+}
+
+// The bytes of the buffer that holds the filter.
+fn say_holder(old: &mut [u8], spare: &mut [u8], placed: Placed) {
+    say::whole(holder(old, spare, placed));
+}
+
+fn say_lent_holder(size: u64, own: &mut [u8], spare_size: u64, dest: &mut [u8], placed: Placed) {
+    let end = part(size, own);
+    let spare_end = part(spare_size, dest);
+    say_holder(&mut own[..end], &mut dest[..spare_end], placed);
+}
+
+// `p` hash, max_count, size of the spare. Then the sums of both buffers, and of the one that holds the filter.
+pub fn spare(call: Call, bench: Bench, own: &mut [u8], dest: &mut [u8]) -> Bench {
+    let lent = bench.own;
+    let before = bench.dest;
+    let size = part(lent.size, own);
+    let end = part(call.z, dest);
+    let placed = place(call, &mut own[..size], lent.numbers, &mut dest[..end]);
+    let after = say_placed(
+        placed,
+        bench.with_dest(Lent {
+            numbers: before.numbers,
+            size: call.z,
+        }),
+    );
+    say::sum(lent.size, own);
+    say::sum(call.z, dest);
+    say_lent_holder(lent.size, own, call.z, dest, placed);
+    after
 }
 
 // `j` size of the destination, whether duplicates are kept.

@@ -61,8 +61,13 @@ fn sum_of(buf: &[u8]) -> u64
     sum
 }
 
+// The sum of a buffer.
+pub fn whole(buf: &[u8]) {
+    hex(sum_of(buf), 8);
+}
+
 // The sum of the part that is lent.
 pub fn sum(size: u64, room: &[u8]) {
     let end = part(size, room);
-    hex(sum_of(&room[..end]), 8);
+    whole(&room[..end]);
 }

@@ -4,10 +4,10 @@ use crate::bench::numbers_of;
 use crate::bench::part;
 use crate::say;
 use crate::script::Call;
-use filter::writers::Inserted;
-use filter::writers::Removed;
 use layout::fresh::Made;
 use layout::numbers::Numbers;
+use writing::writers::Inserted;
+use writing::writers::Removed;
 
 fn fresh(buf: &mut [u8], n: Numbers, widths: Numbers) -> Numbers {
     let made = layout::fresh::fresh(buf, widths.qbits, widths.rbits, widths.max_qbits);
@@ -73,10 +73,10 @@ fn say_removed(n: Numbers, removed: Removed) -> Numbers {
 // One insert or remove among many.
 fn one(kind: u8, buf: &mut [u8], n: Numbers, hash: u64) -> Numbers {
     if kind == b'a' {
-        let done = filter::writers::insert_fingerprint_counting_quick(buf, n, hash, u64::MAX);
+        let done = writing::writers::insert_fingerprint_counting_quick(buf, n, hash, u64::MAX);
         return inserted_or(done, n);
     }
-    let done = filter::writers::remove_fingerprint_quick(buf, n, hash);
+    let done = writing::writers::remove_fingerprint_quick(buf, n, hash);
     removed_or(done, n)
 }
 
@@ -100,16 +100,19 @@ fn ask(call: Call, buf: &mut [u8], n: Numbers) -> Numbers {
     match kind {
         b'f' => fresh(buf, n, numbers_of(0, call.y)),
         b'i' => {
-            let done = filter::writers::insert_fingerprint_counting(buf, n, call.x, call.y);
+            let done = writing::writers::insert_fingerprint_counting(buf, n, call.x, call.y);
             say_inserted(n, done)
         }
         b'I' => {
-            let done = filter::writers::insert_fingerprint_counting_quick(buf, n, call.x, call.y);
+            let done = writing::writers::insert_fingerprint_counting_quick(buf, n, call.x, call.y);
             say_inserted(n, done)
         }
         b'a' | b'x' => many(call, buf, n),
-        b'm' => say_removed(n, filter::writers::remove_fingerprint(buf, n, call.x)),
-        b'M' => say_removed(n, filter::writers::remove_fingerprint_quick(buf, n, call.x)),
+        b'm' => say_removed(n, writing::writers::remove_fingerprint(buf, n, call.x)),
+        b'M' => say_removed(
+            n,
+            writing::writers::remove_fingerprint_quick(buf, n, call.x),
+        ),
         _ => {
             say::word(b"byte");
             n

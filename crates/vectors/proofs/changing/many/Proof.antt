@@ -1,11 +1,11 @@
--- `vectors::writing::many`: a call fewer is left with each turn, and the buffer's length stays. Assumes nothing.
+-- `vectors::changing::many`: a call fewer is left with each turn, and the buffer's length stays. Assumes nothing.
 use Prim.Native.Nat.{_≤_}
 use mathlib.Core.Path.{_≡_}
 use native.Mathlib.Omega.{arith}
 use lib.ListN.{length}
 use borrow.Author.Needs.{needs}
-use Rattle.vectors.proofs.writing.many.Statement.{statement}
-use Rattle.vectors.proofs.writing.many.Tie as tie
+use Rattle.vectors.proofs.changing.many.Statement.{statement}
+use Rattle.vectors.proofs.changing.many.Tie as tie
 
 abbrev Inv-loop : tie.InvT-loop
 Inv-loop call buf₀ after₀ hash₀ left₀ t7 buf after hash left = length buf ≡ length buf₀
