@@ -115,8 +115,8 @@ impl Bench {
             'g' | 'j' => format!(" {:08x}", self.dest.sum()),
             'p' | 'P' => {
                 let (own, dest) = (self.own.sum(), self.dest.sum());
-                let holder = if answer.starts_with("spare") { dest } else { own };
-                format!(" {own:08x} {dest:08x} {holder:08x}")
+                let holder = if answer.starts_with("spare") { 2 } else { 1 };
+                format!(" {own:08x} {dest:08x} {holder}")
             }
             's' | 'S' => self.listing.place(),
             _ => String::new(),

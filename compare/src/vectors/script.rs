@@ -115,7 +115,7 @@ fn walk(bench: &mut Bench, rng: &mut Rng, shape: Shape, step: u64) {
     fresh(bench, shape, 0);
     bench.call(Line('a', rng.next(), step, shape.capacity() - 5));
     let hashes = Hashes::spread(rng, shape);
-    let calls = hashes.up_and_down(rng, &bench.filter(), 26);
+    let calls = hashes.up_and_down(rng, &bench.filter(), 24);
     for call in calls {
         bench.call(line(call, rng.one_in(2)));
     }

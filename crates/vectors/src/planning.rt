@@ -37,7 +37,7 @@ fn needed(capacity: u64) {
     match needed {
         Needed::Qbits(q) => {
             say::word(b"qbits");
-            say::number(q as u64);
+            say::small(q);
         }
         Needed::Refused(k) => say::refused(k),
     }
@@ -46,7 +46,7 @@ fn needed(capacity: u64) {
 fn say_specs(s: FilterSpecs) {
     say::word(b"specs");
     say::number(s.max_capacity);
-    say::number(s.fingerprint_bits as u64);
+    say::small(s.fingerprint_bits);
     say::number(s.memory_bytes_min);
     say::number(s.memory_bytes_max);
     say::float(s.max_error_ratio);

@@ -13,6 +13,10 @@ pub fn number(n: u64) {
     io::print_decimal(1, n);
 }
 
+pub fn small(n: u8) {
+    number(n as u64);
+}
+
 pub fn hex(n: u64, digits: usize) {
     io::write_all(1, b" ");
     io::print_hex(1, n, digits);
@@ -24,13 +28,13 @@ pub fn end() {
 
 pub fn refused(k: u8) {
     word(b"refused");
-    number(k as u64);
+    small(k);
 }
 
 pub fn widths(n: Numbers) {
-    number(n.qbits as u64);
-    number(n.rbits as u64);
-    number(n.max_qbits as u64);
+    small(n.qbits);
+    small(n.rbits);
+    small(n.max_qbits);
 }
 
 pub fn place(p: Place) {
