@@ -92,9 +92,19 @@ fn examples(bench: &mut Bench) {
     each(bench, [Line('i', 0x3f07, MAX, 0); 3]);
     each(bench, [Line('c', 0x3f07, 0, 0), Line('n', 0x3f07, 0, 0)]);
     listed(bench);
-    each(bench, [Line('i', 0x0001, 1, 0), Line('k', 0, 0, 0)]);
+    each(bench, [Line('i', 0x0001, 1, 0), Line('a', 0x3e09, 0, 4), Line('k', 0, 0, 0)]);
     listed(bench);
     each(bench, [Line('m', 0x3f07, 0, 0); 4]);
+    // Past capacity, by its bytes alone: 61 held in as many quotients, and two more.
+    fresh(bench, shape, 0);
+    each(bench, [Line('a', 0, 0x100, 61), Line('i', 0x3d00, 1, 0), Line('i', 0x3c00, 1, 0)]);
+    each(bench, [Line('b', 8, 0x7f, 0), Line('b', 16, 0x7f, 0), Line('k', 0, 0, 0)]);
+    each(bench, [Line('r', 63, widths(6, 8, 0), 89), Line('k', 0, 0, 0), Line('i', 0x3f00, 1, 0)]);
+    each(bench, [Line('i', 0x3e00, 1, 0), Line('n', 0x3e00, 0, 0), Line('o', 0, 0, 0)]);
+    // A wider one adds nothing to it.
+    fresh(bench, Shape { qbits: 6, rbits: 9 }, 0);
+    each(bench, [Line('a', 0, 0x100, 20), Line('o', 0, 0, 0), Line('j', 89, 0, 0)]);
+    each(bench, [Line('j', 89, 1, 0), Line('m', 0x3e00, 0, 0), Line('m', 0, 0, 0)]);
 }
 
 /// Offsets at 255 and just below: 9/8 with 400 copies in quotient 0, taken down past the place
@@ -106,6 +116,7 @@ fn saturated(bench: &mut Bench) {
     each(bench, [Line('m', 0x06, 0, 0), Line('m', 0x07, 0, 0), Line('x', 0x07, 0, 14)]);
     each(bench, [Line('m', 0x07, 0, 0); 5]);
     each(bench, [Line('i', 0x07, MAX, 0); 4]);
+    each(bench, [Line('b', 243, 255, 0), Line('k', 0, 0, 0), Line('b', 243, 192, 0)]);
     each(bench, [Line('a', 0x1_4000, 0x100, 40), Line('k', 0, 0, 0), Line('x', 0x07, 0, 300)]);
     each(bench, [Line('k', 0, 0, 0), Line('n', 0x07, 0, 0)]);
 }
@@ -115,7 +126,7 @@ fn walk(bench: &mut Bench, rng: &mut Rng, shape: Shape, step: u64) {
     fresh(bench, shape, 0);
     bench.call(Line('a', rng.next(), step, shape.capacity() - 5));
     let hashes = Hashes::spread(rng, shape);
-    let calls = hashes.up_and_down(rng, &bench.filter(), 24);
+    let calls = hashes.up_and_down(rng, &bench.filter(), 18);
     for call in calls {
         bench.call(line(call, rng.one_in(2)));
     }
@@ -175,6 +186,9 @@ fn refusals(bench: &mut Bench) {
         each(bench, [Line('b', at as u64, byte ^ 0x10, 0), Line('k', 0, 0, 0)]);
         each(bench, [Line('i', 0x101, 1, 0), Line('b', at as u64, byte, 0)]);
     }
+    // Two remainders of one run change places.
+    each(bench, [Line('b', 18, 0x81, 0), Line('b', 19, 0x01, 0), Line('k', 0, 0, 0)]);
+    each(bench, [Line('b', 18, 0x01, 0), Line('b', 19, 0x81, 0), Line('k', 0, 0, 0)]);
     bench.call(Line('b', 3, 0xff, 0));
     refused(bench);
     each(bench, [Line('b', 3, bytes[3].into(), 0), Line('k', 0, 0, 0)]);
@@ -246,6 +260,16 @@ fn merges(bench: &mut Bench) {
         }
         each(bench, [Line('j', 90, 1, 0), Line('d', 0, 0, 0), Line('k', 0, 0, 0)]);
     }
+    // As many as fit, and one more; then a side whose repeats count once.
+    other(bench, small, 0x0001, 0x104, 31);
+    for (max_qbits, count) in [(0, 30), (7, 31), (0, 31)] {
+        fresh(bench, small, max_qbits);
+        bench.call(Line('a', 0x2080, 0x0101, count));
+        each(bench, [Line('j', 89, 1, 0), Line('j', 154, 1, 0)]);
+    }
+    other(bench, small, 0x0001, 0, 40);
+    fresh(bench, small, 0);
+    each(bench, [Line('a', 0x2080, 0x0101, 30), Line('j', 89, 0, 0), Line('j', 89, 1, 0)]);
     // Other wider: cut to self's width, and 7 where an added copy would pass capacity.
     other(bench, Shape { qbits: 7, rbits: 8 }, 0x4105, 0x33, 40);
     for count in [0, 15, 30, 60] {
@@ -254,6 +278,11 @@ fn merges(bench: &mut Bench) {
         each(bench, [Line('j', 89, 0, 0), Line('j', 89, 1, 0), Line('j', 170, 0, 0)]);
         each(bench, [Line('d', 0, 0, 0), Line('k', 0, 0, 0)]);
     }
+    // Two that are cut to the same are one.
+    fresh(bench, Shape { qbits: 7, rbits: 8 }, 0);
+    each(bench, [Line('a', 0x0010, 0x100, 10), Line('a', 0x4010, 0x100, 10), Line('o', 0, 0, 0)]);
+    fresh(bench, small, 0);
+    each(bench, [Line('a', 0x0020, 0x100, 51), Line('j', 89, 0, 0), Line('j', 89, 1, 0)]);
     // Other narrower, and then wrong filters: the first's number comes first, then the second's.
     other(bench, Shape { qbits: 6, rbits: 7 }, 0x105, 0x33, 30);
     fresh(bench, small, 0);
