@@ -113,6 +113,9 @@ fn saturated(bench: &mut Bench) {
     fresh(bench, Shape { qbits: 9, rbits: 8 }, 0);
     each(bench, [Line('a', 0x07, 0, 400), Line('k', 0, 0, 0), Line('n', 0x07, 0, 0)]);
     each(bench, [Line('c', 0x07, 0, 0), Line('c', 0x08, 0, 0), Line('i', 0x06, MAX, 0)]);
+    // Runs in blocks whose stored offset isn't the carry.
+    each(bench, [Line('i', 0x4105, MAX, 0), Line('i', 0x8503, MAX, 0), Line('c', 0x4105, 0, 0)]);
+    each(bench, [Line('n', 0x8503, 0, 0), Line('m', 0x4105, 0, 0), Line('M', 0x8503, 0, 0)]);
     each(bench, [Line('m', 0x06, 0, 0), Line('m', 0x07, 0, 0), Line('x', 0x07, 0, 14)]);
     each(bench, [Line('m', 0x07, 0, 0); 5]);
     each(bench, [Line('i', 0x07, MAX, 0); 4]);
