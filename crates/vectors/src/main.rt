@@ -1,5 +1,6 @@
 // Replays a list of calls from standard input and writes a line for each answer, so that the gate tests the compiled code. The file `stdout` has what
-// the original answered: compare/README.md says how it is made. A driver promises nothing of its own but that each call is safe and ends.
+// the original answers: compare/README.md says how it is made, and lists the calls. A test driver promises nothing of its own; it is proved safe, and
+// that it ends.
 use bench::Bench;
 use script::Call;
 
@@ -37,11 +38,9 @@ fn run(
             bench
         }
         b'l' | b's' | b'S' => bench.with_place(listing::answer(call, bench.own, own, bench.place)),
-        b'f' | b'i' | b'I' | b'm' | b'M' | b'a' | b'x' => bench.with_own(changing::answer(
-            call,
-            bench.own,
-            own,
-        )),
+        b'f' | b'i' | b'I' | b'm' | b'M' | b'a' | b'x' => {
+            bench.with_own(changing::answer(call, bench.own, own))
+        }
         b'b' => {
             bench::damage(call, own);
             bench.with_own(changing::answer(call, bench.own, own))

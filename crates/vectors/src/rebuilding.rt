@@ -13,14 +13,23 @@ fn say_rebuilt(n: Numbers, rebuilt: Rebuilt) -> Numbers {
     match rebuilt {
         Rebuilt::Filter(after) => {
             say::word(b"filter");
-            say::number(after.len);
-            say::widths(after);
+            say::record(after);
             after
         }
         Rebuilt::Refused(k) => {
             say::refused(k);
             n
         }
+    }
+}
+
+// The destination's record afterwards, and the sum of its bytes.
+fn rebuilt_in(call: Call, before: Lent, dest: &[u8], rebuilt: Rebuilt) -> Lent {
+    let numbers = say_rebuilt(before.numbers, rebuilt);
+    say::sum(call.x, dest);
+    Lent {
+        numbers,
+        size: call.x,
     }
 }
 
@@ -31,13 +40,7 @@ pub fn grow(call: Call, bench: Bench, own: &[u8], dest: &mut [u8]) -> Lent {
     let size = part(lent.size, own);
     let end = part(call.x, dest);
     let rebuilt = growth::rebuild::rebuild_grown(&own[..size], n, &mut dest[..end]);
-    let before = bench.dest;
-    let numbers = say_rebuilt(before.numbers, rebuilt);
-    say::sum(call.x, dest);
-    Lent {
-        numbers,
-        size: call.x,
-    }
+    rebuilt_in(call, bench.dest, dest, rebuilt)
 }
 
 // `P` is quick.
@@ -56,8 +59,7 @@ fn say_placed(placed: Placed, bench: Bench) -> Bench {
         Placed::InOld(m, numbers) => {
             say::word(b"old");
             say::number(m);
-            say::number(numbers.len);
-            say::widths(numbers);
+            say::record(numbers);
             bench.with_own(Lent {
                 numbers,
                 size: own.size,
@@ -66,8 +68,7 @@ fn say_placed(placed: Placed, bench: Bench) -> Bench {
         Placed::InSpare(m, numbers) => {
             say::word(b"spare");
             say::number(m);
-            say::number(numbers.len);
-            say::widths(numbers);
+            say::record(numbers);
             bench.with_dest(Lent {
                 numbers,
                 size: dest.size,
@@ -129,11 +130,5 @@ pub fn merge(call: Call, bench: Bench, own: &[u8], other: &[u8], dest: &mut [u8]
         call.y,
         &mut dest[..end],
     );
-    let before = bench.dest;
-    let numbers = say_rebuilt(before.numbers, rebuilt);
-    say::sum(call.x, dest);
-    Lent {
-        numbers,
-        size: call.x,
-    }
+    rebuilt_in(call, bench.dest, dest, rebuilt)
 }

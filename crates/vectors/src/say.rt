@@ -37,6 +37,12 @@ pub fn widths(n: Numbers) {
     small(n.max_qbits);
 }
 
+// A record: len and widths.
+pub fn record(n: Numbers) {
+    number(n.len);
+    widths(n);
+}
+
 pub fn place(p: Place) {
     number(p.quotient);
     number(p.slot);
