@@ -2,7 +2,9 @@ pub mod Adding
 pub mod Counting
 pub mod Growing
 pub mod Holder
+pub mod Kept
 pub mod Merging
+pub mod Pinned
 pub mod Rebuilding
 pub mod Spare
 pub mod Take
