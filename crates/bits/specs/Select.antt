@@ -1,5 +1,5 @@
 -- What `select` promises: the place of the n-th one, counted from 0.
-use Prim.Native.Nat.{ℕ, suc, _-_, _^_, _<_, _≤_}
+use Prim.Native.Nat.{ℕ, suc, _+_, _-_, _^_, _<_, _≤_}
 use native.Mathlib.Omega.{arith}
 use lib.Dec.{lit<, lit≤}
 use mathlib.Core.Path.{_≡_, refl, sym, ap, _∙_}
@@ -12,6 +12,13 @@ use Rattle.bits.specs.declared.select.Found.the-variants.{At, Nothing}
 abbrev pub Selected : ℕ → ℕ → Found → Type 0
 Selected x n (At p) = (p < 64) × (field x p 1 ≡ 1) × (rank x p ≡ n)
 Selected x n Nothing = rank x 64 ≤ n
+
+-- y has the ones of x but for the n lowest
+abbrev pub Cleared : ℕ → ℕ → ℕ → Type 0
+Cleared x n y = (k : ℕ) → rank y k ≡ rank x k - n
+
+pub cleared-more : (x y z n m t : ℕ) → n + m ≡ t → Cleared x n y → Cleared y m z → Cleared x t z
+cleared-more x y z n m t e a b k = omega (arith, a k, b k)
 
 -- two answers that meet the promise are one
 clash : (x n p : ℕ) → p < 64 → field x p 1 ≡ 1 → rank x p ≡ n → rank x 64 ≤ n → ⊥

@@ -34,3 +34,11 @@ pub fn ones_from(x: u64, i: u64) -> u64
 {
     ones(x >> i)
 }
+
+// How many of the digits of x from i to below j are ones.
+pub fn ones_between(x: u64, i: u64, j: u64) -> u64
+    requires { ⌜ (i ≤ j) × (j < 64) ⌝ }
+    ensures { λ r. ⌜ (r + rank x i ≡ rank x j) × (r ≤ 64) ⌝ }
+{
+    ones((x & (pow2(j) - 1)) >> i)
+}

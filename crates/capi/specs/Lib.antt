@@ -1,5 +1,6 @@
 pub mod Growing
 pub mod Listing
+pub mod Merging
 pub mod Planning
 pub mod Reading
 pub mod Writing

@@ -3,11 +3,11 @@ use Prim.Native.Nat.{ℕ}
 use mathlib.Core.Path.{_≡_}
 use mathlib.Core.List.{List}
 use Rattle.layout.specs.declared.numbers.Numbers.{Numbers}
-use Rattle.filter.specs.declared.writers.Inserted.{Inserted}
-use Rattle.filter.specs.declared.writers.Inserted.the-variants as inserted
-use Rattle.filter.specs.declared.writers.Removed.{Removed}
-use Rattle.filter.specs.declared.writers.Removed.the-variants as removed
-use Rattle.filter.specs.Writing.{Insert, InsertQuick, Remove, RemoveQuick}
+use Rattle.writing.specs.declared.writers.Inserted.{Inserted}
+use Rattle.writing.specs.declared.writers.Inserted.the-variants as inserted
+use Rattle.writing.specs.declared.writers.Removed.{Removed}
+use Rattle.writing.specs.declared.writers.Removed.the-variants as removed
+use Rattle.writing.specs.Writing.{Insert, InsertQuick, Remove, RemoveQuick}
 use Rattle.capi.specs.declared.planning.Changed.{Changed}
 
 abbrev pub insertedOf : Numbers → Inserted → Changed

@@ -2,9 +2,9 @@
 ghost use mathlib.Core.Path.{_≡_};
 ghost use Rattle.capi.specs.Writing.{insertedOf, InsertOutcome, InsertQuickOutcome, removedOf, RemoveOutcome, RemoveQuickOutcome};
 use crate::planning::Changed;
-use filter::writers::Inserted;
-use filter::writers::Removed;
 use layout::numbers::Numbers;
+use writing::writers::Inserted;
+use writing::writers::Removed;
 
 fn as_inserted(inserted: Inserted, n: Numbers) -> Changed
     ensures { λ r. ⌜ r ≡ insertedOf n inserted ⌝ }
@@ -28,7 +28,7 @@ pub extern "C" fn strumblay_insert(buf: &mut [u8], n: Numbers, hash: u64, max_co
     ensures { λ r. ⌜ InsertOutcome n hash «max_count» (now (buf .entry)) r (now (buf .exit)) ⌝ }
 {
     as_inserted(
-        filter::writers::insert_fingerprint_counting(buf, n, hash, max_count),
+        writing::writers::insert_fingerprint_counting(buf, n, hash, max_count),
         n,
     )
 }
@@ -43,7 +43,7 @@ pub extern "C" fn strumblay_insert_quick(
     ensures { λ r. ⌜ InsertQuickOutcome n hash «max_count» (now (buf .entry)) r (now (buf .exit)) ⌝ }
 {
     as_inserted(
-        filter::writers::insert_fingerprint_counting_quick(buf, n, hash, max_count),
+        writing::writers::insert_fingerprint_counting_quick(buf, n, hash, max_count),
         n,
     )
 }
@@ -74,12 +74,12 @@ fn as_removed(removed: Removed, n: Numbers) -> Changed
 pub extern "C" fn strumblay_remove(buf: &mut [u8], n: Numbers, hash: u64) -> Changed
     ensures { λ r. ⌜ RemoveOutcome n hash (now (buf .entry)) r (now (buf .exit)) ⌝ }
 {
-    as_removed(filter::writers::remove_fingerprint(buf, n, hash), n)
+    as_removed(writing::writers::remove_fingerprint(buf, n, hash), n)
 }
 
 #[no_mangle]
 pub extern "C" fn strumblay_remove_quick(buf: &mut [u8], n: Numbers, hash: u64) -> Changed
     ensures { λ r. ⌜ RemoveQuickOutcome n hash (now (buf .entry)) r (now (buf .exit)) ⌝ }
 {
-    as_removed(filter::writers::remove_fingerprint_quick(buf, n, hash), n)
+    as_removed(writing::writers::remove_fingerprint_quick(buf, n, hash), n)
 }

@@ -1,5 +1,6 @@
 -- What follows of the promises of lookup, count, insert and remove: filters that hold a fingerprint equally often answer alike, no lookup compares more than n(q) remainders,
 -- and a quick call equals the checked one on every sound buffer. Assumes nothing.
+use Rattle.filter.specs.declared.contains.Counting.the-variants as counting
 use Prim.Native.Nat.{ℕ, _+_, _/_, _^_, _≤_, _<_}
 use mathlib.Core.Path.{_≡_, refl, sym, ap, _∙_}
 use mathlib.Core.Bool.{Bool, true, false}
@@ -21,13 +22,9 @@ use Rattle.layout.specs.Verdicts.{lowestDue}
 use Rattle.filter.specs.declared.contains.Lookup.{Lookup}
 use Rattle.filter.specs.declared.contains.Lookup.the-variants.{Held, Absent, Refused}
 use Rattle.filter.specs.declared.contains.Counting.{Counting}
-use Rattle.filter.specs.declared.contains.Counting.the-variants as counting
-use Rattle.filter.specs.declared.writers.Inserted.{Inserted}
-use Rattle.filter.specs.declared.writers.Removed.{Removed}
 use Rattle.filter.specs.Asking.{Contains, ContainsQuick, Count, CountQuick, fingerprintOf, lookupOf, runOf}
-use Rattle.filter.specs.Writing.{Insert, InsertQuick, Remove, RemoveQuick, Inside}
 use Rattle.filter.specs.Listing.{HoldsOf}
-use Rattle.filter.specs.Pinned.{Settled, apart, InsertRefused, InsertRight, insert-refused-one, insert-right-one, RemoveRefused, RemoveRight, remove-refused-one, remove-right-one}
+use Rattle.filter.specs.Pinned.{Settled}
 
 -- whether a lookup says yes, and how many remainders it says that it compared
 abbrev pub saysHeld : Lookup → Bool
@@ -91,11 +88,3 @@ module _ (n : Numbers) (hash : ℕ) (s : List ℕ) (d : Settled n s) where
   pub count-quick-checked : (a b : Counting) → CountQuick n s hash a → Count n s hash b → a ≡ b
   count-quick-checked =
       quick-checked (λ k a. a ≡ counting.Refused k) (λ l a. a ≡ counting.Copies (copies (fingerprintOf n hash) l)) _ _ _ _ s (λ k a b x y. x ∙ sym y) (λ l h a b x y. x ∙ sym y) (λ _. Unit {0}) d
-
-  pub insert-quick-checked : (most : ℕ) (a b : Inserted) (t u : List ℕ) → InsertQuick n hash most s a t → Insert n hash most s b u → (a ≡ b) × (t ≡ u)
-  insert-quick-checked most a b t u p q =
-      apart (a, t) (b, u) (quick-checked (InsertRefused s) (InsertRight n hash most s) _ _ _ _ s (insert-refused-one n hash most s) (insert-right-one n hash most s) (λ x. Inside s (x .1)) d (a, t) (b, u) p q)
-
-  pub remove-quick-checked : (a b : Removed) (t u : List ℕ) → RemoveQuick n hash s a t → Remove n hash s b u → (a ≡ b) × (t ≡ u)
-  remove-quick-checked a b t u p q =
-      apart (a, t) (b, u) (quick-checked (RemoveRefused s) (RemoveRight n hash s) _ _ _ _ s (remove-refused-one n hash s) (remove-right-one n hash s) (λ x. Inside s (x .1)) d (a, t) (b, u) p q)

@@ -65,7 +65,9 @@ pub fn look(buf: &[u8], shape: Shape, hash: u64) -> Seen
     if slot::is_occupied(buf, shape, x) == 0 {
         return Seen::Absent(0);
     }
-    seek(buf, shape, run_start(buf, shape, x), remainder(shape, hash))
+    // `&*buf`, here and in `tally`: a slice handed on as it came is copied whole first, and the copy waits for memory.
+    let at = run_start(&*buf, shape, x);
+    seek(buf, shape, at, remainder(shape, hash))
 }
 
 // 1 if a equals b, else 0.
@@ -106,7 +108,7 @@ pub fn tally(buf: &[u8], shape: Shape, hash: u64) -> u64
     if slot::is_occupied(buf, shape, x) == 0 {
         return 0;
     }
-    let at = run_start(buf, shape, x);
+    let at = run_start(&*buf, shape, x);
     let rem = remainder(shape, hash);
     let Seen::At(k) = seek(buf, shape, at, rem) else {
         return 0;

@@ -7,6 +7,7 @@ ghost use Rattle.theory.specs.number.Bytes.{le};
 ghost use Rattle.theory.specs.layout.Block.{views};
 ghost use Rattle.theory.specs.layout.Ring.{ringAt};
 ghost use Rattle.layout.specs.Whole.{Whole};
+ghost use Rattle.filter.specs.Near.{Pending};
 ghost use Rattle.filter.specs.Runs.{InWord, NthRunend, Behind, Back, OffsetOf, RunStart, RunEnd, FreeFrom};
 use bits::select::Found;
 use layout::shape::Shape;
@@ -144,7 +145,7 @@ pub fn run_end(buf: &[u8], shape: Shape, x: u64) -> u64
 }
 
 // The first slot of the run of x: the one behind the run of the quotient before.
-pub fn run_start(buf: &[u8], shape: Shape, x: u64) -> u64
+fn start_behind(buf: &[u8], shape: Shape, x: u64) -> u64
     requires { ⌜ (Whole shape (length (now buf))) × (x < slots (shape .qbits)) ⌝ }
     ensures { λ r. ⌜ RunStart (slots (shape .qbits)) (views (shape .rbits) (le (now (buf .entry)))) x r ⌝ }
 {
@@ -154,6 +155,43 @@ pub fn run_start(buf: &[u8], shape: Shape, x: u64) -> u64
         return x;
     };
     s % slots
+}
+
+// The first slot of the run of x, if n runends stand from slot x on before it: the one behind the last of them.
+fn start_past(buf: &[u8], shape: Shape, x: u64, n: u64) -> u64
+    requires { ⌜ (Whole shape (length (now buf))) × (x < slots (shape .qbits)) × (0 < n) × Pending (slots (shape .qbits)) (views (shape .rbits) (le (now buf))) x n ⌝ }
+    ensures { λ r. ⌜ RunStart (slots (shape .qbits)) (views (shape .rbits) (le (now (buf .entry)))) x r ⌝ }
+{
+    let Found::At(p) = nth_runend(buf, shape, x, n - 1) else {
+        return x;
+    };
+    (p + 1) % shape.slots()
+}
+
+// The first slot of the run of x. Where no run from before the block reaches slot x, it is the one behind the runends of those of the block's runs
+// that are not over at x. They are few, and mostly in its word, which is shifted up by one from x on, with a one below for x itself.
+pub fn run_start(buf: &[u8], shape: Shape, x: u64) -> u64
+    requires { ⌜ (Whole shape (length (now buf))) × (x < slots (shape .qbits)) ⌝ }
+    ensures { λ r. ⌜ RunStart (slots (shape .qbits)) (views (shape .rbits) (le (now (buf .entry)))) x r ⌝ }
+{
+    let b = x / 64;
+    let i = x % 64;
+    let o = slot::offset_byte(buf, shape, b);
+    if i < o {
+        return start_behind(buf, shape, x);
+    }
+    let word = slot::runends(buf, shape, b);
+    let begun = bits::count::ones_below(slot::occupieds(buf, shape, b), i);
+    let over = bits::count::ones_between(word, o, i);
+    // On a damaged buffer only.
+    if begun < over {
+        return x;
+    }
+    let n = begun - over;
+    let Found::At(p) = bits::select::select(((word >> i) << 1) + 1, n) else {
+        return start_past(buf, shape, x, n);
+    };
+    (x + p) % shape.slots()
 }
 
 // The first free slot from slot x on, not taken round the end: from each slot that is used on to the one behind its run.

@@ -17,7 +17,7 @@ use Rattle.filter.specs.declared.contains.Counting.{Counting}
 use Rattle.filter.specs.Asking.{Contains, Count, fingerprintOf}
 use Rattle.filter.specs.Listing.{HoldsOf}
 use Rattle.filter.specs.Answers.{saysHeld, contains-alike, count-alike}
-use Rattle.filter.specs.Kept.{more-clear, more-holds}
+use Rattle.writing.specs.Kept.{more-clear, more-holds}
 use Rattle.growth.specs.declared.rebuild.Rebuilt.the-variants.{Filter}
 use Rattle.growth.specs.declared.spare.Placed.{Placed}
 use Rattle.growth.specs.declared.spare.Placed.the-variants.{InOld, InSpare, Refused}

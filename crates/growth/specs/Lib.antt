@@ -1,8 +1,13 @@
 pub mod Adding
+pub mod Beyond
+pub mod Both
 pub mod Counting
+pub mod Equal
 pub mod Growing
 pub mod Holder
 pub mod Kept
+pub mod Limits
+pub mod Merged
 pub mod Merging
 pub mod Pinned
 pub mod Rebuilding

@@ -14,9 +14,9 @@ use Rattle.theory.specs.Holding.{copies}
 use Rattle.theory.specs.check.Promises.{checked-one, quick-one, quick-checked}
 use Rattle.layout.specs.declared.numbers.Numbers.{Numbers}
 use Rattle.filter.specs.Asking.{fingerprintOf}
-use Rattle.filter.specs.Writing.{Inside}
+use Rattle.writing.specs.Writing.{Inside}
 use Rattle.filter.specs.Listing.{HoldsOf}
-use Rattle.filter.specs.Pinned.{Settled, apart}
+use Rattle.filter.specs.Pinned.{Settled, alike, apart}
 use Rattle.growth.specs.declared.rebuild.Rebuilt.{Rebuilt}
 use Rattle.growth.specs.declared.rebuild.Rebuilt.the-variants as rebuilt
 use Rattle.growth.specs.declared.spare.Placed.{Placed}
@@ -26,9 +26,6 @@ use Rattle.growth.specs.Spare.{Places, InsertSpare, InsertSpareQuick}
 use Rattle.growth.specs.Holder.{holderOf}
 
 -- ---- a rebuild: an outcome is the answer and the destination afterwards
-alike : {a : Rebuilt} {t : List ℕ} (x y : Rebuilt × List ℕ) → (x .0 ≡ a) × (x .1 ≡ t) → (y .0 ≡ a) × (y .1 ≡ t) → x ≡ y
-alike x y p q = λ i. ((p .0 ∙ sym (q .0)) i, (p .1 ∙ sym (q .1)) i)
-
 pub lands-one : (k q r mx : ℕ) (l d : List ℕ) (x y : Rebuilt × List ℕ) → Lands k q r mx l d (x .0) (x .1) → Lands k q r mx l d (y .0) (y .1) → x ≡ y
 lands-one k q r mx l d x y p w = go (eq-zero-or-pos k)
   where

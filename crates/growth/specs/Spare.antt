@@ -13,10 +13,10 @@ use Rattle.theory.specs.Image.{image}
 use Rattle.theory.specs.Refusal.{orElse, widthsDue, sizeDue, lenDue, maxDue, fullDue, dueOf, due}
 use Rattle.layout.specs.declared.numbers.Numbers.{Numbers}
 use Rattle.layout.specs.Verdicts.{lowestDue}
-use Rattle.filter.specs.declared.writers.Inserted.{Inserted}
-use Rattle.filter.specs.declared.writers.Inserted.the-variants as inserted
+use Rattle.writing.specs.declared.writers.Inserted.{Inserted}
+use Rattle.writing.specs.declared.writers.Inserted.the-variants as inserted
 use Rattle.filter.specs.Asking.{CheckedOn, QuickOn, fingerprintOf}
-use Rattle.filter.specs.Writing.{Insert, InsertQuick, Inserts, Inside, withLen}
+use Rattle.writing.specs.Writing.{Insert, InsertQuick, Inserts, Inside, withLen}
 use Rattle.filter.specs.Listing.{HoldsOf}
 use Rattle.growth.specs.declared.rebuild.Rebuilt.the-variants as rebuilt
 use Rattle.growth.specs.declared.spare.Placed.{Placed}

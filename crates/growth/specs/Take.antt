@@ -14,14 +14,14 @@ use Rattle.theory.specs.layout.Block.{tailAt}
 use Rattle.theory.specs.list.More.{more-length}
 use Rattle.theory.specs.list.UpTo.{upTo, addedUpTo, up-to-grows}
 use Rattle.layout.specs.declared.shape.Shape.{Shape}
-use Rattle.filter.specs.declared.insert.Insertion.{Insertion}
-use Rattle.filter.specs.declared.insert.Insertion.the-variants.{Enough, Added, Refused}
+use Rattle.writing.specs.declared.insert.Insertion.{Insertion}
+use Rattle.writing.specs.declared.insert.Insertion.the-variants.{Enough, Added, Refused}
 use Rattle.filter.specs.declared.listing.Place.{Place}
 use Rattle.filter.specs.declared.listing.Step.{Step}
 use Rattle.filter.specs.declared.listing.Step.the-variants as step
 use Rattle.filter.specs.declared.listing.Stepped.{Stepped}
 use Rattle.filter.specs.Lookup.{Shows}
-use Rattle.filter.specs.Insert.{InsertsCore}
+use Rattle.writing.specs.Insert.{InsertsCore}
 use Rattle.filter.specs.Places.{stepped, placeOf, step-some, First, Steps}
 
 -- the last eight bytes stay

@@ -4,12 +4,12 @@ ghost use Prim.Native.Nat.{ℕ, _+_, _^_, _<_, _≤_};
 ghost use lib.ListN.{length};
 ghost use Rattle.layout.specs.Whole.{Whole};
 ghost use Rattle.growth.specs.Take.{Puts, PutsStep, TakesIn};
-use filter::insert::Insertion;
-use filter::insert::insert_core;
 use filter::listing::Step;
 use filter::listing::first_place;
 use filter::listing::step_core;
 use layout::shape::Shape;
+use writing::insert::Insertion;
+use writing::insert::insert_core;
 
 // One insert; the answer is how many are held then.
 fn put(dest: &mut [u8], shape: Shape, len: u64, f: u64, max_count: u64) -> u64

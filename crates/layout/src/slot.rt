@@ -38,18 +38,33 @@ pub fn set_cell(buf: &mut [u8], shape: Shape, d: usize, w: u64, s: u64, v: u64)
     bits::remainder::set_remainder(buf, block_start(shape, s / 64) + d, s % 64, w, v);
 }
 
+// The 64 occupied bits of block b, and its runend bits.
+pub fn occupieds(buf: &[u8], shape: Shape, b: u64) -> u64
+    requires { ⌜ (Whole shape (length (now buf))) × (b < blocks (shape .qbits)) ⌝ }
+    ensures { λ r. ⌜ r ≡ wordAt (shape .rbits) 1 (le (now (buf .entry))) b ⌝ }
+{
+    bits::word::read64(buf, block_start(shape, b) + OCCUPIEDS)
+}
+
+pub fn runends(buf: &[u8], shape: Shape, b: u64) -> u64
+    requires { ⌜ (Whole shape (length (now buf))) × (b < blocks (shape .qbits)) ⌝ }
+    ensures { λ r. ⌜ r ≡ wordAt (shape .rbits) 9 (le (now (buf .entry))) b ⌝ }
+{
+    bits::word::read64(buf, block_start(shape, b) + RUNENDS)
+}
+
 pub fn is_occupied(buf: &[u8], shape: Shape, s: u64) -> u64
     requires { ⌜ (Whole shape (length (now buf))) × (s < slots (shape .qbits)) ⌝ }
     ensures { λ r. ⌜ (r ≡ cellAt (shape .rbits) 1 1 (le (now (buf .entry))) s) × (r < 2) ⌝ }
 {
-    get_cell(buf, shape, OCCUPIEDS, 1, s)
+    bits::bit::bit(occupieds(buf, shape, s / 64), s % 64)
 }
 
 pub fn is_runend(buf: &[u8], shape: Shape, s: u64) -> u64
     requires { ⌜ (Whole shape (length (now buf))) × (s < slots (shape .qbits)) ⌝ }
     ensures { λ r. ⌜ (r ≡ cellAt (shape .rbits) 9 1 (le (now (buf .entry))) s) × (r < 2) ⌝ }
 {
-    get_cell(buf, shape, RUNENDS, 1, s)
+    bits::bit::bit(runends(buf, shape, s / 64), s % 64)
 }
 
 pub fn get_remainder(buf: &[u8], shape: Shape, s: u64) -> u64
@@ -78,21 +93,6 @@ pub fn set_remainder(buf: &mut [u8], shape: Shape, s: u64, v: u64)
     ensures { λ r. ⌜ le (now (buf .exit)) ≡ putCell (shape .rbits) 17 (shape .rbits) (le (now (buf .entry))) s v ⌝ }
 {
     set_cell(buf, shape, REMAINDERS, shape.rbits as u64, s, v);
-}
-
-// The 64 occupied bits of block b, and its runend bits.
-pub fn occupieds(buf: &[u8], shape: Shape, b: u64) -> u64
-    requires { ⌜ (Whole shape (length (now buf))) × (b < blocks (shape .qbits)) ⌝ }
-    ensures { λ r. ⌜ r ≡ wordAt (shape .rbits) 1 (le (now (buf .entry))) b ⌝ }
-{
-    bits::word::read64(buf, block_start(shape, b) + OCCUPIEDS)
-}
-
-pub fn runends(buf: &[u8], shape: Shape, b: u64) -> u64
-    requires { ⌜ (Whole shape (length (now buf))) × (b < blocks (shape .qbits)) ⌝ }
-    ensures { λ r. ⌜ r ≡ wordAt (shape .rbits) 9 (le (now (buf .entry))) b ⌝ }
-{
-    bits::word::read64(buf, block_start(shape, b) + RUNENDS)
 }
 
 // The offset byte of block b.

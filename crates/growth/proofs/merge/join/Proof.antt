@@ -4,7 +4,7 @@ use native.Mathlib.Omega.{arith}
 use lib.ListN.{length}
 use denote.Ref.{now}
 use Rattle.layout.specs.Judging.{clear-whole}
-use Rattle.growth.specs.Merging.{few}
+use Rattle.growth.specs.Limits.{few}
 use borrow.Author.Needs.{needs}
 use Rattle.growth.proofs.merge.join.Statement.{statement}
 use Rattle.growth.proofs.merge.join.Tie as tie

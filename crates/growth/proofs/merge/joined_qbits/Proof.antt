@@ -5,7 +5,7 @@ use native.Mathlib.Omega.{arith}
 use Rattle.theory.specs.Shape.{capacity}
 use Rattle.theory.specs.Planning.{widthFrom}
 use Rattle.theory.specs.plan.Needed.{width-here, width-next}
-use Rattle.growth.specs.Merging.{width-past, width-on}
+use Rattle.growth.specs.Limits.{width-past, width-on}
 use Prim.Native.Nat.{suc, _≤_, _-_, _+_}
 use mathlib.Core.Path.{_≡_, refl, sym, _∙_}
 use Rattle.growth.proofs.merge.joined_qbits.Statement.{statement}

@@ -1,6 +1,6 @@
 -- `growth::merge::limit_of`, case by case. Assumes nothing.
 use mathlib.Core.Path.{sym}
-use Rattle.growth.specs.Merging.{limit-none, limit-some}
+use Rattle.growth.specs.Limits.{limit-none, limit-some}
 use Rattle.growth.proofs.merge.limit_of.Statement.{statement}
 use Rattle.growth.proofs.merge.limit_of.Tie as tie
 

@@ -6,7 +6,8 @@ use lib.ListN.{length}
 use denote.Ref.{now}
 use Rattle.theory.specs.check.Refusals.{none-due}
 use Rattle.layout.specs.Judging.{clear-whole}
-use Rattle.growth.specs.Merging.{limit-fits, equal-seven, equal-fits, equal-twelve, equal-built}
+use Rattle.growth.specs.Limits.{limit-fits}
+use Rattle.growth.specs.Equal.{equal-seven, equal-fits, equal-twelve, equal-built}
 use borrow.Author.Needs.{needs}
 use Rattle.growth.proofs.merge.merge_sorted.Statement.{statement}
 use Rattle.growth.proofs.merge.merge_sorted.Tie as tie

@@ -5,7 +5,8 @@ use lib.ListN.{length}
 use denote.Ref.{now}
 use Rattle.theory.specs.check.Refusals.{none-due}
 use Rattle.layout.specs.Judging.{clear-whole}
-use Rattle.growth.specs.Merging.{few, wants-sum, wants-union}
+use Rattle.growth.specs.Limits.{few}
+use Rattle.growth.specs.Both.{wants-sum, wants-union}
 use borrow.Author.Needs.{needs}
 use Rattle.growth.proofs.merge.wanted_len.Statement.{statement}
 use Rattle.growth.proofs.merge.wanted_len.Tie as tie

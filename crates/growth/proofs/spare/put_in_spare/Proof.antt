@@ -1,7 +1,7 @@
 -- `growth::spare::put_in_spare`: the quick insert's answer, said of the spare. Assumes nothing.
 use mathlib.Core.Path.{subst}
 use denote.Ref.{now}
-use Rattle.filter.specs.declared.writers.Inserted.{Inserted}
+use Rattle.writing.specs.declared.writers.Inserted.{Inserted}
 use Rattle.growth.specs.Spare.{PutsInSpare, inSpare, put-in-spare}
 use borrow.Author.Needs.{needs}
 use Rattle.growth.proofs.spare.put_in_spare.Statement.{statement}

@@ -2,7 +2,7 @@
 use mathlib.Core.Path.{subst}
 use native.Mathlib.Omega.{arith}
 use denote.Ref.{now}
-use Rattle.filter.specs.declared.insert.Insertion.{Insertion}
+use Rattle.writing.specs.declared.insert.Insertion.{Insertion}
 use Rattle.growth.specs.Take.{Puts, heldAfter, put-done}
 use borrow.Author.Needs.{needs}
 use Rattle.growth.proofs.take.put.Statement.{statement}

@@ -1,0 +1,65 @@
+-- `growth::merge::merge_wider`: 7, 12, or other's list taken into a copy of self. Assumes nothing.
+use mathlib.Core.Path.{_≡_, _∙_}
+use native.Mathlib.Omega.{arith}
+use lib.ListN.{length}
+use denote.Ref.{now}
+use Rattle.layout.specs.Judging.{clear-whole}
+use Rattle.growth.specs.Limits.{few}
+use Rattle.growth.specs.Beyond.{wider-seven, wider-twelve, wider-built}
+use borrow.Author.Needs.{needs}
+use Rattle.growth.proofs.merge.merge_wider.Statement.{statement}
+use Rattle.growth.proofs.merge.merge_wider.Tie as tie
+
+wider-due-requires : tie.Need-wider-due-requires
+wider-due-requires c κs =
+    let s = c .before .before .before in
+    (clear-whole (s .args .n) (now (s .args .buf)) (s .pre .0), clear-whole (s .args .m) (now (s .args .other)) (s .pre .1))
+
+returns : tie.Need-returns
+returns c =
+    let s = c .before .before .before .before .before in
+    let a = s .args in
+    wider-seven (a .n) (now (a .buf)) (a .m) (now (a .other)) (s .pre .0) (s .pre .1) (a .keep) _ (c .before .wider-due .ensures) (now (a .dest)) (c .if1 .taken)
+
+returns-2 : tie.Need-returns-2
+returns-2 c =
+    let s = c .before .before .before .before .before .before in
+    let a = s .args in
+    wider-twelve (a .n) (now (a .buf)) (a .m) (now (a .other)) (s .pre .0) (s .pre .1) (a .keep) _ (c .before .before .wider-due .ensures) (now (a .dest)) (omega (arith, c .before .if1 .left)) (c .if2 .taken)
+
+copy-requires : tie.Need-copy-requires
+copy-requires c κs = search needs
+
+max-count-of-requires : tie.Need-max-count-of-requires
+max-count-of-requires c κs = search needs
+
+take-in-requires : tie.Need-take-in-requires
+take-in-requires c κs =
+    let s = c .before .before .before .before .before .before .before .before .before .before .before .before in
+    let a = s .args in
+    (clear-whole (a .m) (now (a .other)) (s .pre .1), rw (c .before .before .before .before .copy .ensures) (clear-whole (a .n) (now (a .buf)) (s .pre .0)), omega (arith, few (a .n) (now (a .buf)) (s .pre .0), few (a .m) (now (a .other)) (s .pre .1)))
+
+same-length : tie.Need-same-length
+same-length c = search needs
+
+returns-3 : tie.Need-returns-3
+returns-3 c =
+    let s = c .before .before .before .before .before .before .before .before .before .before .before .before .before .before .before in
+    let a = s .args in
+    let k = c .before .before .take-in in
+    let y = c .before .before .before .before .before .before .before .copy in
+    let same : length (now (a .dest)) ≡ length (now (a .buf)) = omega (arith, c .before .before .before .before .before .before .before .before .before .if2 .left) in
+    wider-built (a .n) (now (a .buf)) (a .m) (now (a .other)) (s .pre .0) (s .pre .1) (a .keep) _ (c .before .before .before .before .before .before .before .before .before .before .before .wider-due .ensures) (now (a .dest)) (omega (arith, c .before .before .before .before .before .before .before .before .before .before .if1 .left)) same _ _ (λ i. omega (arith, c .slice-known3 .given i)) (k .kept .1 .1 .1 .0 ∙ y .kept .1 .0) (rw (y .ensures, c .before .before .before .before .max-count-of .ensures) at (k .ensures))
+
+pub merge-wider-spec : {M : Type 1} → statement M
+merge-wider-spec =
+    tie.close
+    (tie.spec
+    wider-due-requires
+    returns
+    returns-2
+    copy-requires
+    max-count-of-requires
+    take-in-requires
+    same-length
+    returns-3)

@@ -1,0 +1,128 @@
+-- The rule of insert, document 01.
+use Prim.Native.Nat.{ℕ, suc, _+_, _*_, _/_, _%_, _^_, _≤_, _<_, max}
+use mathlib.Core.Path.{_≡_, refl, sym, ap, _∙_}
+use mathlib.Core.List.{List}
+use native.Mathlib.Omega.{arith}
+use lib.ListN.{length}
+use lib.Pow.{pow-pos}
+use Rattle.theory.specs.Shape.{slots, capacity, blocks, fingerprint}
+use Rattle.theory.specs.Holding.{copies, more, run}
+use Rattle.theory.specs.Image.{Views, many}
+use Rattle.theory.specs.carry.Carry.{FirstFree, first-free}
+use Rattle.theory.specs.list.Seek.{copies-run}
+use Rattle.theory.specs.list.More.{place-le}
+use Rattle.theory.specs.number.Bytes.{le}
+use Rattle.theory.specs.layout.Block.{tailAt, views}
+use Rattle.theory.specs.layout.Views.{many-at}
+use Rattle.theory.specs.layout.Sizes.{slots-blocks, fingerprint-lt, capacity-lt}
+use Rattle.theory.specs.layout.FreeSlot.{run-before}
+use Rattle.theory.specs.layout.More.{more-holding, room}
+use Rattle.theory.specs.layout.Inserting.{Wrote, tail-was, written-image}
+use Rattle.bits.specs.declared.select.Found.the-variants.{At, Nothing}
+use Rattle.layout.specs.declared.shape.Shape.{Shape}
+use Rattle.writing.specs.declared.insert.Insertion.{Insertion}
+use Rattle.writing.specs.declared.insert.Insertion.the-variants.{Enough, Added, Refused}
+use Rattle.writing.specs.declared.insert.Spot.{Spot}
+use Rattle.filter.specs.Runs.{FreeFrom}
+use Rattle.writing.specs.Spots.{SpotIn, SpotFor}
+use Rattle.filter.specs.Lookup.{Shows, shown-runs}
+
+-- m copies are there; c = max(1, max_count). m ≥ c: answer c, no change. Else len ≥ capacity: 7. Else one copy more, answer m
+pub record InsertsAs (h : Shape) (len f most : ℕ) (l : List ℕ) (s : List ℕ) (a : Insertion) (t : List ℕ) : Type 0 where
+  pub enough : max 1 most ≤ copies f l → (a ≡ Enough (max 1 most)) × (t ≡ s)
+  pub full : copies f l < max 1 most → capacity (h .qbits) ≤ len → (a ≡ Refused 7) × (t ≡ s)
+  pub added : copies f l < max 1 most → len < capacity (h .qbits) → (a ≡ Added (copies f l)) × Shows h t (more f l)
+
+-- if the buffer shows l, of len fingerprints; and on any buffer the last eight bytes stay
+pub record InsertsCore (h : Shape) (len hash most : ℕ) (s : List ℕ) (a : Insertion) (t : List ℕ) : Type 0 where
+  pub right : (l : List ℕ) → Shows h s l → length l ≡ len → InsertsAs h len (fingerprint (h .qbits) (h .rbits) hash) most l s a t
+  pub tail : tailAt (h .rbits) (blocks (h .qbits)) (le t) ≡ tailAt (h .rbits) (blocks (h .qbits)) (le s)
+
+-- how the code comes to it
+module _ (h : Shape) (low : 6 ≤ h .qbits) (s : List ℕ) (len hash most x rem : ℕ) (p : Spot)
+    (ex : x ≡ fingerprint (h .qbits) (h .rbits) hash / 2 ^ h .rbits) (b : x < slots (h .qbits)) (er : rem ≡ fingerprint (h .qbits) (h .rbits) hash % 2 ^ h .rbits)
+    (sp : SpotFor h s x rem p) (c : ℕ) (ec : c ≡ max 1 most) where
+  abbrev f : ℕ
+  f = fingerprint (h .qbits) (h .rbits) hash
+
+  abbrev m : ℕ
+  m = slots (h .qbits)
+
+  abbrev v : Views
+  v = views (h .rbits) (le s)
+
+  abbrev counts : List ℕ → ℕ → ℕ
+  counts l = many (slots (h .qbits)) (2 ^ h .rbits) l
+
+  spot : (l : List ℕ) → Shows h s l → SpotIn m (counts l) (f / 2 ^ h .rbits) (f % 2 ^ h .rbits) (run (2 ^ h .rbits) l (f / 2 ^ h .rbits)) p
+  spot l w = rw (ex, er) at (sp .right l w)
+
+  tallied : (l : List ℕ) → Shows h s l → p .copies ≡ copies f l
+  tallied l w = spot l w .met ∙ sym (copies-run (2 ^ h .rbits) (pow-pos (h .rbits)) f l)
+
+  pub core-enough : c ≤ p .copies → InsertsCore h len hash most s (Enough c) s
+  core-enough q = record {
+    right = λ l w n. record {
+      enough = λ z. (ap Enough ec, refl);
+      full = λ z y. absurd (omega (arith, tallied l w));
+      added = λ z y. absurd (omega (arith, tallied l w));
+    };
+    tail = refl;
+  }
+
+  module _ (q : p .copies < c) where
+    pub core-full : capacity (h .qbits) ≤ len → InsertsCore h len hash most s (Refused 7) s
+    core-full y = record {
+      right = λ l w n. record {
+        enough = λ z. absurd (omega (arith, tallied l w));
+        full = λ z u. (refl, refl);
+        added = λ z u. absurd (omega arith);
+      };
+      tail = refl;
+    }
+
+    module _ (room-left : len < capacity (h .qbits)) where
+      -- the free slot that the walk found
+      free : (l : List ℕ) (w : Shows h s l) → FirstFree m (counts l) x
+      free l w = first-free m (counts l) (shown-runs h s l w x b .round) x
+
+      damaged : ((l : List ℕ) → Shows h s l → ⊥) → InsertsCore h len hash most s (Refused 6) s
+      damaged never = record { right = λ l w n. absurd (never l w); tail = refl }
+
+      pub core-missed : FreeFrom m v x Nothing → InsertsCore h len hash most s (Refused 6) s
+      core-missed k = damaged (λ l w. let z : _≡_ {A = ℕ} 0 1 = cc (k .right (counts l) (shown-runs h s l w x b) (w .image .offsets) (free l w)) in omega arith)
+
+      module _ (e : ℕ) (k : FreeFrom m v x (At e)) where
+        at-free : (l : List ℕ) (w : Shows h s l) → e ≡ free l w .at
+        at-free l w = cc (k .right (counts l) (shown-runs h s l w x b) (w .image .offsets) (free l w))
+
+        pub core-before : e < p .slot → InsertsCore h len hash most s (Refused 6) s
+        core-before y = damaged (λ l w. omega (arith, at-free l w, run-before m (counts l) x (free l w), sp .right l w .at, place-le rem (run (2 ^ h .rbits) l x), many-at m (2 ^ h .rbits) l x b))
+
+        module _ (t : List ℕ) (y : Wrote (h .rbits) m (blocks (h .qbits)) x (p .slot) (p .«bit_slot») e rem (p .bit) (le s) (le t)) where
+          shows : (l : List ℕ) → Shows h s l → length l ≡ len → Shows h t (more f l)
+          shows l w n =
+              let u = fingerprint-lt (h .qbits) (h .rbits) hash in
+              let few : suc (length l) < m = omega (arith, capacity-lt (h .qbits) low) in
+              let a = spot l w in
+              record {
+                holding = more-holding m (2 ^ h .rbits) f l (w .holding) u few;
+                image = written-image (h .rbits) m (blocks (h .qbits)) (slots-blocks (h .qbits) low) l f (w .holding) u few (p .slot) (p .«bit_slot») e (p .bit) (a .bit-place) (le s) (le t)
+                    (rw ex at b) (a .at) (a .bit-at) (same-room l w u few) (a .bit-is) (rw (ex, er) at y) (w .image);
+              }
+            where
+              same-room : (l : List ℕ) (w : Shows h s l) (u : f < m * 2 ^ h .rbits) (few : suc (length l) < m) → e ≡ room m (2 ^ h .rbits) (pow-pos (h .rbits)) l f (w .holding) u few .at
+              same-room l w u few =
+                  let z = room m (2 ^ h .rbits) (pow-pos (h .rbits)) l f (w .holding) u few in
+                  let k′ = rw ex at k in
+                  cc (k′ .right (counts l) (shown-runs h s l w x b) (w .image .offsets) z)
+
+          pub core-added : InsertsCore h len hash most s (Added (p .copies)) t
+          core-added = record {
+            right = λ l w n. record {
+              enough = λ z. absurd (omega (arith, tallied l w));
+              full = λ z u. absurd (omega arith);
+              added = λ z u. (ap Added (tallied l w), shows l w n);
+            };
+            tail = tail-was (h .rbits) m (blocks (h .qbits)) x (p .slot) (p .«bit_slot») e rem (p .bit) (le s) (le t) (slots-blocks (h .qbits) low) b y;
+          }

@@ -1,0 +1,9 @@
+pub mod Insert
+pub mod Kept
+pub mod Leaving
+pub mod Pinned
+pub mod Remove
+pub mod Shifted
+pub mod Spots
+pub mod Traces
+pub mod Writing
