@@ -3,10 +3,10 @@ ghost use mathlib.Core.Path.{_≡_};
 ghost use Rattle.growth.specs.Spare.{InsertSpare, InsertSpareQuick, MovesWorked, PutsInSpare, Settles};
 use crate::rebuild::Rebuilt;
 use crate::rebuild::rebuild_grown;
+use layout::numbers::Numbers;
 use writing::writers::Inserted;
 use writing::writers::insert_fingerprint_counting;
 use writing::writers::insert_fingerprint_counting_quick;
-use layout::numbers::Numbers;
 
 // The answer of an insert with the record afterwards, by the buffer that holds the filter then; or refused.
 pub enum Placed {
