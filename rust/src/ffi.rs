@@ -114,10 +114,8 @@ pub fn insert_quick(buf: &mut [u8], n: Numbers, hash: u64, max_count: u64) -> Ch
     unsafe { strumblay_insert_quick(buf.as_mut_ptr(), buf.len(), n, hash, max_count) }
 }
 
-#[cfg(feature = "remove")]
 pub use removal::*;
 
-#[cfg(feature = "remove")]
 mod removal {
     use super::{Changed, Numbers};
 
@@ -135,10 +133,8 @@ mod removal {
     }
 }
 
-#[cfg(feature = "growth")]
 pub use growing::*;
 
-#[cfg(feature = "growth")]
 mod growing {
     use super::{Changed, Numbers};
 

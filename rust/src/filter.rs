@@ -191,14 +191,12 @@ impl<B: AsMut<[u8]>> Filter<B> {
     /// assert_eq!(filter, Filter::new(Widths::new(6, 8))?);
     /// # Ok::<(), Error>(())
     /// ```
-    #[cfg(feature = "remove")]
     pub fn remove(&mut self, hash: u64) -> Result<bool> {
         let changed = ffi::remove(self.buffer.as_mut(), self.numbers, hash);
         self.take(changed).map(|removed| removed == 1)
     }
 
     /// As [`remove`](Self::remove), quick: 1 to 5.
-    #[cfg(feature = "remove")]
     pub fn remove_quick(&mut self, hash: u64) -> Result<bool> {
         let changed = ffi::remove_quick(self.buffer.as_mut(), self.numbers, hash);
         self.take(changed).map(|removed| removed == 1)

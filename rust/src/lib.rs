@@ -41,7 +41,6 @@ mod error;
 #[allow(unsafe_code)]
 mod ffi;
 mod filter;
-#[cfg(feature = "growth")]
 mod growth;
 mod listing;
 mod planning;

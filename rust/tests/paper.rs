@@ -107,7 +107,6 @@ fn planning() {
     assert_eq!(Widths::planned(61, 61, f64::NAN), Ok(Widths::new(6, 1)));
 }
 
-#[cfg(feature = "remove")]
 #[test]
 fn four_hundred_and_one_removed() {
     let mut filter = Filter::new(Widths::new(9, 8)).unwrap();
@@ -123,7 +122,6 @@ fn four_hundred_and_one_removed() {
     assert_eq!(filter.remove_quick(256 << 8), Ok(false));
 }
 
-#[cfg(feature = "growth")]
 #[test]
 fn growth_and_merge() {
     let filter = of(&[0x0103, 0x0105]);

@@ -51,7 +51,8 @@ pub fn drive(effort: Effort) {
 impl Tally {
     fn compare(&mut self, filter: &Filter, numbers: Numbers, bytes: &[u8]) {
         let expected = check(numbers, bytes).err().unwrap_or(0);
-        let got = proved::check::check(bytes, numbers);
+        let lent = proved::guarded::Guarded::new(bytes);
+        let got = proved::check::check(lent.bytes(), numbers);
         if got != expected {
             println!("{NAME}: the proved check DISAGREES\n  answer {got}, expected {expected}");
             println!("  numbers {numbers:?}");

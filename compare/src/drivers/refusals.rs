@@ -84,7 +84,8 @@ impl Tally {
     fn step(&mut self, rng: &mut Rng, n: Numbers, bytes: &[u8]) {
         let any = |rng: &mut Rng| rng.next() >> rng.pick(&[0, 32, 55, 58, 60]);
         let place = crate::model::Place { quotient: any(rng), slot: any(rng), remaining: any(rng) };
-        let got = crate::proved::list::step(bytes, n, place);
+        let lent = crate::proved::guarded::Guarded::new(bytes);
+        let got = crate::proved::list::step(lent.bytes(), n, place);
         match crate::model::due_before_image(n, bytes.len() as u64) {
             Ok(_) => self.ended += 1,
             Err(number) if got == Err(number) => self.agreed += 1,

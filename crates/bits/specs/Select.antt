@@ -1,10 +1,8 @@
 -- What `select` promises: the place of the n-th one, counted from 0.
-use Prim.Native.Nat.{ℕ, suc, _+_, _-_, _^_, _<_, _≤_}
+use Prim.Native.Nat.{ℕ, suc, _+_, _-_, _<_, _≤_}
 use native.Mathlib.Omega.{arith}
-use lib.Dec.{lit<, lit≤}
 use mathlib.Core.Path.{_≡_, refl, sym, ap, _∙_}
 use Rattle.theory.specs.number.Field.{field}
-use Rattle.theory.specs.tools.Total.{total}
 use Rattle.theory.specs.number.Count.{rank, rank-suc, rank-mono, rank-inj}
 use Rattle.bits.specs.declared.select.Found.{Found}
 use Rattle.bits.specs.declared.select.Found.the-variants.{At, Nothing}
@@ -29,10 +27,3 @@ selected-unique x n (At p) (At q) s t = ap At (rank-inj x p q (s .1) (t .1) (s .
 selected-unique x n (At p) Nothing s t = absurd (clash x n p (s .0) (s .1) (s .2) t)
 selected-unique x n Nothing (At q) s t = absurd (clash x n q (t .0) (t .1) (t .2) s)
 selected-unique x n Nothing Nothing s t = refl
-
--- worked examples, from the definitions
-pub examples : Selected 0 0 Nothing × Selected 11 2 (At 3) × Selected (2 ^ 63) 0 (At 63) × Selected (2 ^ 64 - 1) 63 (At 63)
-    × Selected (2 ^ 64 - 1) 64 Nothing × Selected (2 ^ 64 - 1) 128 Nothing
-unfolding rank field total
-examples =
-    (lit≤ tt, (lit< tt, refl, refl), (lit< tt, refl, refl), (lit< tt, refl, refl), lit≤ tt, lit≤ tt)

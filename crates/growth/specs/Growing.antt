@@ -1,6 +1,6 @@
 -- What follows of growth's promise: the grown filter is sound, holds the same list and has room. Assumes nothing.
-use Prim.Native.Nat.{ℕ, _+_, _-_, _*_, _^_, _≤_, _<_}
-use mathlib.Core.Path.{_≡_, refl, sym, ap, _∙_}
+use Prim.Native.Nat.{ℕ, _+_, _-_, _*_, _<_}
+use mathlib.Core.Path.{_≡_, refl}
 use mathlib.Core.List.{List}
 use native.Mathlib.Omega.{arith}
 use native.Mathlib.Decide.{decLt}
@@ -9,7 +9,7 @@ use lib.Pow.{pow-add}
 use Rattle.theory.specs.Shape.{slots, capacity, fingerprint}
 use Rattle.theory.specs.Image.{image}
 use Rattle.theory.specs.layout.Images.{image-length}
-use Rattle.theory.specs.check.Refusals.{none-due, clear-none}
+use Rattle.theory.specs.check.Refusals.{clear-none}
 use Rattle.layout.specs.declared.numbers.Numbers.{Numbers}
 use Rattle.layout.specs.Verdicts.{lowestDue}
 use Rattle.filter.specs.Asking.{fingerprintOf}
@@ -36,16 +36,13 @@ module _ (n : Numbers) (s l : List ℕ) (e : lowestDue n s ≡ 0) (h : HoldsOf n
   unfolding slots
   twice = pow-add 2 (n .qbits) 1
 
-  width : n .qbits + 1 + (n .rbits - 1) ≡ n .qbits + n .rbits
-  width = omega (arith, grown-fits n s e above .2)
-
   -- the bits of a fingerprint stay, and so does every fingerprint
-  pub grown-width : (len : ℕ) → grownTo n len .qbits + grownTo n len .rbits ≡ n .qbits + n .rbits
-  grown-width len = width
+  pub grown-width : n .qbits + 1 + (n .rbits - 1) ≡ n .qbits + n .rbits
+  grown-width = omega (arith, grown-fits n s e above .2)
 
   pub grown-fingerprint : (len hash : ℕ) → fingerprintOf (grownTo n len) hash ≡ fingerprintOf n hash
   unfolding fingerprint
-  grown-fingerprint len hash = rw width
+  grown-fingerprint len hash = rw grown-width
 
   pub grown-clear : lowestDue (grownTo n (length l)) (image (n .qbits + 1) (n .rbits - 1) l) ≡ 0
   grown-clear =
@@ -62,7 +59,7 @@ module _ (n : Numbers) (s l : List ℕ) (e : lowestDue n s ≡ 0) (h : HoldsOf n
   grown-holds = record {
     holding = record {
       ascending = h .holding .ascending;
-      under = rw (← pow-add 2 (n .qbits + 1) (n .rbits - 1), width, pow-add 2 (n .qbits) (n .rbits)) (h .holding .under);
+      under = rw (← pow-add 2 (n .qbits + 1) (n .rbits - 1), grown-width, pow-add 2 (n .qbits) (n .rbits)) (h .holding .under);
       fewer = omega (arith, few, twice);
     };
     many = refl;

@@ -5,9 +5,11 @@ pub mod Counting
 pub mod Equal
 pub mod Growing
 pub mod Holder
+pub mod Kept
 pub mod Limits
 pub mod Merged
 pub mod Merging
+pub mod Pinned
 pub mod Rebuilding
 pub mod Spare
 pub mod Take

@@ -1,9 +1,9 @@
 -- What follows of the promise of merge: it leaves no choice, and what the result holds, fingerprint by fingerprint. Assumes nothing.
 use Prim.Native.Nat.{ℕ, zero, suc, _+_, _<_, min, max}
-use mathlib.Core.Path.{_≡_, refl, sym, ap, _∙_}
+use mathlib.Core.Path.{_≡_, sym, ap, _∙_}
 use mathlib.Core.List.{List, map}
 use native.Mathlib.Omega.{arith}
-use native.Mathlib.Decide.{decLt, ℕ-discrete}
+use native.Mathlib.Decide.{decLt}
 use native.Mathlib.Nat.{eq-zero-or-pos}
 use mathlib.Core.Logic.{_⊎_, inl, inr}
 use Rattle.theory.specs.Shape.{fingerprint}
@@ -15,11 +15,12 @@ use Rattle.theory.specs.list.Adding.{copies-kept, copies-single, copies-added, 
 use Rattle.layout.specs.declared.numbers.Numbers.{Numbers}
 use Rattle.layout.specs.Verdicts.{lowestDue}
 use Rattle.filter.specs.Asking.{CheckedOn}
-use Rattle.filter.specs.Pinned.{apart}
+use Rattle.filter.specs.Pinned.{alike, apart}
 use Rattle.growth.specs.declared.rebuild.Rebuilt.{Rebuilt}
 use Rattle.growth.specs.declared.rebuild.Rebuilt.the-variants.{Filter, Refused}
 use Rattle.growth.specs.Rebuilding.{Lands}
-use Rattle.growth.specs.Merging.{HeldBy, widthOf, EqualTo, WiderTo, MergesTo, Merges}
+use Rattle.growth.specs.Pinned.{lands-one}
+use Rattle.growth.specs.Merging.{HeldBy, widthOf, MergesTo, Merges}
 
 -- ---- no choice
 abbrev Outcome : Type 0
@@ -28,21 +29,11 @@ Outcome = Rebuilt × List ℕ
 abbrev No : List ℕ → ℕ → Outcome → Type 0
 No d k x = (x .0 ≡ Refused k) × (x .1 ≡ d)
 
-both : {a : Rebuilt} {t : List ℕ} (x y : Outcome) → (x .0 ≡ a) × (x .1 ≡ t) → (y .0 ≡ a) × (y .1 ≡ t) → x ≡ y
-both x y p q = λ i. ((p .0 ∙ sym (q .0)) i, (p .1 ∙ sym (q .1)) i)
-
-pub lands-one : (k q r mx : ℕ) (l d : List ℕ) (x y : Outcome) → Lands k q r mx l d (x .0) (x .1) → Lands k q r mx l d (y .0) (y .1) → x ≡ y
-lands-one k q r mx l d x y p g = go (eq-zero-or-pos k)
-  where
-    go : (k ≡ 0) ⊎ (0 < k) → x ≡ y
-    go (inl e) = both x y (p .built e) (g .built e)
-    go (inr h) = both x y (p .refused h) (g .refused h)
-
 merges-one : (n m : Numbers) (keep : ℕ) (la lb d : List ℕ) (x y : Outcome) → MergesTo n m keep la lb d (x .0) (x .1) → MergesTo n m keep la lb d (y .0) (y .1) → x ≡ y
 merges-one n m keep la lb d x y p g = go (decLt (widthOf m) (widthOf n)) (decLt (widthOf n) (widthOf m))
   where
     go : Dec (widthOf m < widthOf n) → Dec (widthOf n < widthOf m) → x ≡ y
-    go (yes h) z = both x y (p .narrower h) (g .narrower h)
+    go (yes h) z = alike x y (p .narrower h) (g .narrower h)
     go (no h) (yes z) = lands-one _ _ _ _ _ d x y (p .wider z) (g .wider z)
     go (no h) (no z) = lands-one _ _ _ _ _ d x y (p .equal (omega arith)) (g .equal (omega arith))
 
@@ -51,8 +42,8 @@ pub merge-pinned : (n : Numbers) (s : List ℕ) (m : Numbers) (o : List ℕ) (ke
     → (a ≡ b) × (t ≡ u)
 merge-pinned n s m o keep d a b t u p g =
     apart (a, t) (b, u)
-    (checked-one (No d) (λ la (x : Outcome). CheckedOn m o (λ k. No d k x) (λ lb. MergesTo n m keep la lb d (x .0) (x .1))) _ _ _ _ s (λ k x y. both x y)
-    (λ la _. checked-one (No d) (λ lb (x : Outcome). MergesTo n m keep la lb d (x .0) (x .1)) _ _ _ _ o (λ k x y. both x y) (λ lb _. merges-one n m keep la lb d)) (a, t) (b, u) p g)
+    (checked-one (No d) (λ la (x : Outcome). CheckedOn m o (λ k. No d k x) (λ lb. MergesTo n m keep la lb d (x .0) (x .1))) _ _ _ _ s (λ k x y. alike x y)
+    (λ la _. checked-one (No d) (λ lb (x : Outcome). MergesTo n m keep la lb d (x .0) (x .1)) _ _ _ _ o (λ k x y. alike x y) (λ lb _. merges-one n m keep la lb d)) (a, t) (b, u) p g)
 
 -- ---- what the result holds
 -- the result is the image of a list, of which P says how often it has each fingerprint

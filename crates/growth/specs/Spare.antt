@@ -18,11 +18,10 @@ use Rattle.writing.specs.declared.writers.Inserted.the-variants as inserted
 use Rattle.filter.specs.Asking.{CheckedOn, QuickOn, fingerprintOf}
 use Rattle.writing.specs.Writing.{Insert, InsertQuick, Inserts, Inside, withLen}
 use Rattle.filter.specs.Listing.{HoldsOf}
-use Rattle.growth.specs.declared.rebuild.Rebuilt.{Rebuilt}
 use Rattle.growth.specs.declared.rebuild.Rebuilt.the-variants as rebuilt
 use Rattle.growth.specs.declared.spare.Placed.{Placed}
 use Rattle.growth.specs.declared.spare.Placed.the-variants.{InOld, InSpare, Refused}
-use Rattle.growth.specs.Rebuilding.{GrowsTo, Grows, growDue}
+use Rattle.growth.specs.Rebuilding.{Grows, growDue}
 use Rattle.growth.specs.Growing.{grownTo, grows-room, grown-fingerprint, grown-clear, grown-holds, grown-room}
 
 -- growth into the spare d, 7 and then 12, and one copy more of f there: e is the spare afterwards

@@ -1,5 +1,5 @@
 -- Growth and merge of document 01, on the lists held. `keep` is 0 for a merge without duplicates.
-use Prim.Native.Nat.{ℕ, zero, suc, _+_, _-_, _≤_, _<_, max}
+use Prim.Native.Nat.{ℕ, zero, suc, _+_, _-_, max}
 use mathlib.Core.List.{List, [], _∷_, map}
 use native.Mathlib.Decide.{decLe, decLt, ℕ-discrete}
 use lib.ListN.{length}
@@ -31,10 +31,6 @@ taken (suc keep) q r a b = added a (map (fingerprint q r) b)
 -- growth, 7: max_qbits is none (0) or at most qbits
 unfoldable pub growthDue : ℕ → ℕ → ℕ
 growthDue q mx = choose (decLe mx q) 7 0
-
--- 8: other's qbits + rbits smaller
-unfoldable pub narrowDue : ℕ → ℕ → ℕ
-narrowDue width other = choose (decLt other width) 8 0
 
 -- equal widths: what needs capacity is the result and, with duplicates, the sum of lens, without, the larger len
 unfoldable pub wanted : ℕ → List ℕ → List ℕ → ℕ

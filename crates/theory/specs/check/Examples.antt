@@ -1,40 +1,15 @@
--- Document 01's examples of runs that wrap and of offsets that saturate, and the check on the first, whole and damaged: by computation from the definitions.
--- Assumes nothing.
-use Prim.Native.Nat.{ℕ, _+_, _*_, _%_, min}
+-- The check on document 01's run that wraps, whole and damaged: by computation from the definitions. Assumes nothing.
+use Prim.Native.Nat.{ℕ, _+_, _*_}
 use mathlib.Core.Path.{_≡_, refl}
-use mathlib.Core.List.{List, [], _∷_}
+use mathlib.Core.List.{[], _∷_}
 use native.Mathlib.Decide.{ℕ-discrete, decLe, decLt}
 use Rattle.theory.specs.tools.Choose.{choose}
 use Rattle.theory.specs.tools.Total.{total}
-use Rattle.theory.specs.Holding.{run}
-use Rattle.theory.specs.Image.{carry, start, walk, Views, runAt, many, restAt}
+use Rattle.theory.specs.Image.{Views}
 use Rattle.theory.specs.check.Queue.{pend, owed, dist, busy}
 use Rattle.theory.specs.check.Step.{Cursor, begin, sight, fault, differ, faults, uses, first-round, second-round, step, steps}
 
--- 6/8, three copies of 3f07: carry 2 before quotient 0, the run from slot 63 on
-three : List ℕ
-three = 0x3f07 ∷ 0x3f07 ∷ 0x3f07 ∷ []
-
-three-carry : carry 64 (many 64 256 three) 0 ∷ start 64 (many 64 256 three) 63 ∷ restAt 64 256 three 63 2 ∷ carry 64 (many 64 256 three) 2 ∷ [] ≡ 2 ∷ 63 ∷ 7 ∷ 0 ∷ []
-unfolding carry start walk many runAt run choose three restAt ℕ-discrete
-three-carry = refl
-
--- 9/8, 400 copies with quotient 0, then 399: computed from the counts, since by the list itself each offset takes four seconds
-offsets : ℕ → List ℕ
-offsets k = o 0 ∷ o 1 ∷ o 2 ∷ o 3 ∷ o 4 ∷ o 5 ∷ o 6 ∷ o 7 ∷ []
-  where
-    o : ℕ → ℕ
-    o b = min (carry 512 (λ x. choose (ℕ-discrete (x % 512) 0) k 0) (64 * b)) 255
-
-offsets-400 : offsets 400 ≡ 0 ∷ 255 ∷ 255 ∷ 208 ∷ 144 ∷ 80 ∷ 16 ∷ 0 ∷ []
-unfolding carry walk choose ℕ-discrete offsets
-offsets-400 = refl
-
-offsets-399 : offsets 399 ≡ 0 ∷ 255 ∷ 255 ∷ 207 ∷ 143 ∷ 79 ∷ 15 ∷ 0 ∷ []
-unfolding carry walk choose ℕ-discrete offsets
-offsets-399 = refl
-
--- the check's cursor after both rounds on the image of `three` (occupied 63, runend 1, remainder 7 in 63, 0 and 1, offset 2), with a more in
+-- the check's cursor after both rounds on the image of three copies of 3f07 at 6/8 (occupied 63, runend 1, remainder 7 in 63, 0 and 1, offset 2), with a more in
 -- the remainder of slot 5, o more in the occupied bit of slot 9, d more in the offset byte and t in the last eight bytes
 tried : ℕ → ℕ → ℕ → ℕ → Cursor
 tried a o d t = steps 1 damaged t 2 begin

@@ -95,11 +95,6 @@ pub record Answer (B n : ℕ) (c : Cursor) : Type 0 where
   pub level : c .pending ≡ c .owed
   pub count : c .used ≡ n
 
--- Budgets add up, and none moves nothing.
-pub steps-none : (B : ℕ) (v : Views) (tail : ℕ) (c : Cursor) → steps B v tail 0 c ≡ c
-unfolding steps
-steps-none B v tail c = refl
-
 pub steps-add : (B : ℕ) (v : Views) (tail j k : ℕ) (c : Cursor) → steps B v tail (j + k) c ≡ steps B v tail k (steps B v tail j c)
 unfolding steps
 steps-add B v tail j zero c = rw (add-zero j)

@@ -1,13 +1,11 @@
 -- Where things stand in a buffer: blocks of 17 + 8 * r bytes, each an offset byte, the occupieds, the runends and 64 remainders.
 -- Occupieds, runends and remainders are one thing: an area from byte d of the block on, with w digits for each of 64 slots. Assumes nothing.
-use Prim.Native.Nat.{ℕ, zero, suc, _+_, _-_, _*_, _/_, _%_, _^_, _≤_, _<_}
-use mathlib.Core.Path.{_≡_, refl, sym, ap, ap₂, _∙_}
+use Prim.Native.Nat.{ℕ, suc, _+_, _-_, _*_, _/_, _%_, _^_, _≤_, _<_}
+use mathlib.Core.Path.{_≡_, ap, _∙_}
 use mathlib.Core.Logic.{_⊎_, inl, inr}
-use native.Mathlib.Nat.{suc-mul, mul-le-mul-right, zero-mul, add-zero, add-assoc, add-comm, mod-one, mul-one}
+use native.Mathlib.Nat.{suc-mul, mul-le-mul-right, mul-one}
 use native.Mathlib.Omega.{arith}
 use Rattle.theory.specs.tools.Cases.{by-eq}
-use Rattle.theory.specs.tools.Total.{total, total-same}
-use Rattle.theory.specs.number.Count.{rank}
 use Rattle.theory.specs.number.Field.{put, by-lt, field, put-above, put-same, put-below, field-field}
 use Rattle.theory.specs.Image.{Views}
 
@@ -160,7 +158,3 @@ word-bit r d x b i l =
     let q : (64 * b + i) / 64 ≡ b = omega arith in
     let k : (64 * b + i) % 64 ≡ i = omega arith in
     field-field x (8 * (block r b + d)) 64 i 1 (omega arith) ∙ rw (q, k, mul-one i)
-
-pub word-rank : (r d x b i : ℕ) → i ≤ 64 → rank (wordAt r d x b) i ≡ total (λ j. cellAt r d 1 x (64 * b + j)) i
-unfolding rank
-word-rank r d x b i l = total-same _ _ i (λ j k. word-bit r d x b j (omega arith))

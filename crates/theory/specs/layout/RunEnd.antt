@@ -7,11 +7,11 @@ use mathlib.Core.Logic.{_⊎_, inl, inr}
 use native.Mathlib.Omega.{arith}
 use native.Mathlib.Decide.{decLe, decLt}
 use native.Mathlib.Nat.{eq-zero-or-pos}
-use Rattle.theory.specs.tools.Total.{total, total-bits, total-suc, total-le}
+use Rattle.theory.specs.tools.Total.{total, total-suc, total-le}
 use Rattle.theory.specs.Image.{carry, start, occ, last}
-use Rattle.theory.specs.carry.Carry.{Round, Free, FirstFree, first-free, start-suc, start-carry, start-le, free-start, start-per, carry-per}
+use Rattle.theory.specs.carry.Carry.{Round, Free, FirstFree, first-free, start-carry, free-start, start-per, carry-per}
 use Rattle.theory.specs.layout.Cells.{Filled}
-use Rattle.theory.specs.layout.Rank.{occ-none, occ-zero, rank-start, start-skip, before-start}
+use Rattle.theory.specs.layout.Rank.{occ-zero, rank-start, start-skip, before-start}
 
 module _ (m : ℕ) (n : ℕ → ℕ) (E : ℕ → ℕ) (r : Round m n) (per : (t : ℕ) → E (t + m) ≡ E t) (h : Filled m n (last n) E) where
   -- where a run is shifted, the slot before it ends a run
@@ -59,15 +59,6 @@ module _ (m : ℕ) (n : ℕ → ℕ) (E : ℕ → ℕ) (r : Round m n) (per : (t
           by (yes l) =
               absurd (omega (arith, rank-start m n E h B, rank-start m n E h (suc x), shifted-end (suc x) c, total-suc E (start m n (suc x) - 1), t, total-le E (suc p) (start m n (suc x) - 1) (omega arith), same))
 
-  -- a slot is free exactly if the runends before it, from the start of B on, are as many as the occupied quotients from B to it
-  pub free-count : (B x : ℕ) → B ≤ x → Free m n x → (start m n B ≤ x) × (total E x + total (occ n) B ≡ total E (start m n B) + total (occ n) (suc x))
-  free-count B x l f =
-      let s : start m n x ≡ x = free-start m n x f in
-      (omega (arith, start-le m n B x l), omega (arith, rank-start m n E h B, rank-start m n E h (suc x), ap (total E) after, total-suc E x, h .free x f))
-    where
-      after : start m n (suc x) ≡ suc x
-      after = omega (arith, start-suc m n x, free-start m n x f)
-
   pub count-free : (B x : ℕ) → total E (start m n B) + total (occ n) (suc x) ≤ total E x + total (occ n) B → Free m n x
   count-free B x e = go (eq-zero-or-pos (carry m n x))
     where
@@ -82,13 +73,6 @@ module _ (m : ℕ) (n : ℕ → ℕ) (E : ℕ → ℕ) (r : Round m n) (per : (t
       go (inr c) =
           let t : total E (suc (start m n x - 1)) ≡ total E (start m n x) = ap (total E) (omega (arith, start-carry m n x)) in
           absurd (omega (arith, rank-start m n E h B, rank-start m n E h x, shifted-end x c, total-suc (occ n) x, total-suc E (start m n x - 1), total-le E x (start m n x - 1) (omega (arith, start-carry m n x))))
-
-  -- the next free slot is as far off as runs are pending, or farther: a search may skip that many
-  pub free-far : ((t : ℕ) → E t ≤ 1) → (B s x y : ℕ) → x ≤ y → Free m n y → s ≤ y → total E (start m n B) + total (occ n) (suc x) ≤ total E s + total (occ n) B + (y - s)
-  free-far one B s x y l f g =
-      let e : s + (y - s) ≡ y = omega arith in
-      let level : total E y ≡ total E (start m n y) = ap (total E) (sym (free-start m n y f)) in
-      omega (arith, rank-start m n E h B, rank-start m n E h y, rw e at (total-bits E one s (y - s)), total-le (occ n) (suc x) (suc y) (omega arith), total-suc (occ n) y, occ-none n y (omega arith))
 
   -- the runs pending before quotient 0: as many as runends run ahead of occupied quotients, at the most, in a round
   pub pending : (t : ℕ) → total E t ≤ total E (start m n 0) + total (occ n) t

@@ -1,15 +1,15 @@
 -- All of a list added to a holding, or only absent ones, once each: multiplicities, order, bounds and lengths. Assumes nothing.
-use Prim.Native.Nat.{ℕ, zero, suc, _+_, _≤_, _<_, min, max}
-use mathlib.Core.Path.{_≡_, refl, sym, ap, _∙_}
+use Prim.Native.Nat.{ℕ, zero, suc, _+_, _≤_, min, max}
+use mathlib.Core.Path.{_≡_, ap, _∙_}
 use mathlib.Core.Logic.{_≢_}
 use mathlib.Core.List.{List, [], _∷_}
 use native.Mathlib.Omega.{arith}
 use native.Mathlib.Decide.{decLe, ℕ-discrete}
 use lib.ListN.{length}
 use Rattle.theory.specs.tools.Choose.{choose, choose-by}
-use Rattle.theory.specs.Holding.{more, Ascending, copies, Least, Under}
+use Rattle.theory.specs.Holding.{more, copies}
 use Rattle.theory.specs.list.Copies.{copies-eq, copies-here, copies-nil, copies-more-here, copies-more-other, copies-other}
-use Rattle.theory.specs.list.More.{more-ascending, more-under, more-least, more-length}
+use Rattle.theory.specs.list.More.{more-length}
 use Rattle.theory.specs.Joining.{added, addedOnce, joined}
 
 -- one copy more if absent
@@ -60,11 +60,6 @@ module _ (P : List ℕ → Type 0) (Q : List ℕ → Type 0) (tail : (f : ℕ) (
   added-keeps a [] q p = p
   added-keeps a (f ∷ b) q p = added-keeps (more f a) b (tail f b q) (step f a b q p)
 
-  pub once-keeps : (a b : List ℕ) → Q b → P a → P (addedOnce a b)
-  unfolding addedOnce
-  once-keeps a [] q p = p
-  once-keeps a (f ∷ b) q p = once-keeps (one f a) b (tail f b q) (choose-by P (decLe 1 (copies f a)) (λ _. p) (λ _. step f a b q p))
-
 -- ---- lengths
 pub added-length : (a b : List ℕ) → length (added a b) ≡ length a + length b
 unfolding added
@@ -81,32 +76,6 @@ once-length a (f ∷ b) =
     (omega arith, omega arith)
 
 -- ---- both kinds of merge at equal widths
-Any : List ℕ → Type 0
-Any b = Unit {0}
-
-module _ (P : List ℕ → Type 0) (Q : List ℕ → Type 0) (none : P []) (tail : (f : ℕ) (b : List ℕ) → Q (f ∷ b) → Q b) (step : (f : ℕ) (a b : List ℕ) → Q (f ∷ b) → P a → P (more f a)) where
-  pub joined-keeps : (keep : ℕ) (a b : List ℕ) → Q a → P a → Q b → P (joined keep a b)
-  unfolding joined
-  joined-keeps zero a b qa pa qb = once-keeps P Q tail step (addedOnce [] a) b qb (once-keeps P Q tail step [] a qa none)
-  joined-keeps (suc keep) a b qa pa qb = added-keeps P Q tail step a b qb pa
-
-pub joined-ascending : (keep : ℕ) (a b : List ℕ) → Ascending a → Ascending (joined keep a b)
-unfolding Ascending Any
-joined-ascending keep a b h = joined-keeps Ascending Any tt (λ f b q. tt) (λ f a b q p. more-ascending f a p) keep a b tt h tt
-
-pub joined-under : (n keep : ℕ) (a b : List ℕ) → Under n a → Under n b → Under n (joined keep a b)
-unfolding Under
-joined-under n keep a b ha hb = joined-keeps (Under n) (Under n) tt (λ f b q. q .1) (λ f a b q p. more-under n f a (q .0) p) keep a b ha ha hb
-
-pub joined-least : (n keep : ℕ) (a b : List ℕ) → Least n a → Least n b → Least n (joined keep a b)
-unfolding Least
-joined-least n keep a b ha hb = joined-keeps (Least n) (Least n) tt (λ f b q. q .1) (λ f a b q p. more-least n f a (q .0) p) keep a b ha ha hb
-
-pub joined-length : (keep : ℕ) (a b : List ℕ) → length (joined keep a b) ≤ length a + length b
-unfolding joined
-joined-length zero a b = omega (arith, once-length (addedOnce [] a) b .1, once-length [] a .1)
-joined-length (suc keep) a b = omega (arith, added-length a b)
-
 -- with duplicates, multiplicities add; without, each fingerprint held by either is held once
 pub copies-kept : (keep g : ℕ) (a b : List ℕ) → copies g (joined (suc keep) a b) ≡ copies g a + copies g b
 unfolding joined

@@ -1,7 +1,7 @@
 -- A list of bytes as one number, little-endian. An element counts modulo 256, so no law but `le-byte` and `le-inj`
 -- has to ask that the elements are bytes (`Bytes`), which the type `List ℕ` does not say. Assumes nothing.
 use Prim.Native.Nat.{ℕ, zero, suc, _+_, _-_, _*_, _/_, _%_, _^_, _≤_, _<_}
-use mathlib.Core.Path.{_≡_, refl, sym, ap, ap₂, _∙_, subst}
+use mathlib.Core.Path.{_≡_, refl, sym, ap, ap₂, _∙_}
 use mathlib.Core.List.{List, [], _∷_, _++_, append-assoc}
 use native.Mathlib.Nat.{add-comm, mod-eq-of-lt, mul-add, mul-comm, add-zero, div-one, mod-one, mul-suc, zero-div, zero-mod, suc-inj, mul-left-comm}
 use native.Mathlib.Omega.{arith}
@@ -113,10 +113,6 @@ toBytes-le (b ∷ s) h =
     let m : (b % 256 + 256 * le s) % 256 ≡ b = omega (arith, h 0) in
     let d : (b % 256 + 256 * le s) / 256 ≡ le s = omega arith in
     ap₂ (λ (a : ℕ) (r : List ℕ). a ∷ r) m (ap (λ (y : ℕ). toBytes (length s) y) d ∙ toBytes-le s (λ i. h (suc i)))
-
--- a list of bytes is what its length and its number say
-pub bytes-are : (t : List ℕ) (n x : ℕ) → Bytes t → length t ≡ n → le t ≡ x → t ≡ toBytes n x
-bytes-are t n x h l e = sym (toBytes-le t h) ∙ rw (l, e)
 
 -- ---- two lists in a row, and the bytes of a number, as fields
 pub append-low : (s t : List ℕ) (p w : ℕ) → p + w ≤ 8 * length s → field (le (s ++ t)) p w ≡ field (le s) p w

@@ -1,12 +1,12 @@
 -- How many of the digits of a number below p are ones. Assumes nothing.
 use Prim.Native.Nat.{ℕ, zero, suc, _+_, _-_, _*_, _/_, _%_, _^_, _≤_, _<_}
 use mathlib.Core.Path.{_≡_, refl, sym, ap, _∙_}
-use native.Mathlib.Nat.{mod-eq-of-lt, mod-lt, mod-one, zero-div, add-zero, add-suc, pow-succ', zero-mul, mul-comm, div-eq-of-lt, mul-div-cancel, mul-mod-left}
+use native.Mathlib.Nat.{mod-eq-of-lt, mod-lt, mod-one, zero-div, pow-succ', div-eq-of-lt, mul-div-cancel, mul-mod-left}
 use native.Mathlib.Omega.{arith}
-use native.Mathlib.Numerals.{one-add, add-one}
+use native.Mathlib.Numerals.{one-add}
 use lib.Arith.{mod-mul}
-use lib.Count.{ones, ones-cat, ones-step}
-use lib.Pow.{pow-pos, high}
+use lib.Count.{ones, ones-cat}
+use lib.Pow.{pow-pos}
 use Rattle.theory.specs.tools.Total.{total-empty, total-le, total-suc, total, total-zero, total-same, total-add, select-unique}
 use Rattle.theory.specs.number.Field.{field-lt, field, field-mod, field-div}
 
@@ -20,10 +20,6 @@ rank-suc x p = total-suc (λ i. field x i 1) p
 pub rank-zero : (x : ℕ) → rank x 0 ≡ 0
 unfolding rank
 rank-zero x = total-zero (λ i. field x i 1)
-
--- as a loop that counts by one meets it
-pub rank-next : (x p : ℕ) → rank x (p + 1) ≡ rank x p + field x p 1
-rank-next x p = rw (add-one p) (rank-suc x p)
 
 pub rank-le : (x p : ℕ) → rank x p ≤ p
 rank-le x zero = omega (arith, rank-zero x)

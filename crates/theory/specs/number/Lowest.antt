@@ -1,6 +1,6 @@
 -- `y & (y - 1)` clears the lowest one; `trailing_zeros` is its place. Assumes nothing.
-use Prim.Native.Nat.{ℕ, zero, suc, _+_, _-_, _*_, _/_, _%_, _^_, _≤_, _<_, min}
-use mathlib.Core.Path.{_≡_, refl, sym, ap, ap₂, _∙_}
+use Prim.Native.Nat.{ℕ, zero, suc, _-_, _*_, _/_, _%_, _^_, _<_}
+use mathlib.Core.Path.{_≡_, refl, _∙_}
 use native.Mathlib.Nat.{pow-suc}
 use native.Mathlib.Omega.{arith}
 use lib.Bits.{bitAnd, and-step, and-self}
@@ -75,6 +75,3 @@ nth x y n t h l =
     let e = rank-suc x t in
     let f = field-lt x t 1 in
     (l .within, omega arith, omega arith)
-
-pub nth-next : (x y m m' : ℕ) → m' ≡ m + 1 → 0 < y → ((j : ℕ) → rank y j ≡ rank x j - m) → (j : ℕ) → rank (bitAnd y (y - 1)) j ≡ rank x j - m'
-nth-next x y m m' q p h j = omega (arith, rank-clear j y p, h j)

@@ -1,9 +1,9 @@
--- `capi::writing::as_inserted`, case by case. Assumes nothing.
+-- `capi::changing::as_inserted`, case by case. Assumes nothing.
 use mathlib.Core.Path.{ap, sym, refl, _∙_, subst}
 use Rattle.capi.specs.Writing.{insertedOf}
 use borrow.Author.Needs.{needs}
-use Rattle.capi.proofs.writing.as_inserted.Statement.{statement}
-use Rattle.capi.proofs.writing.as_inserted.Tie as tie
+use Rattle.capi.proofs.changing.as_inserted.Statement.{statement}
+use Rattle.capi.proofs.changing.as_inserted.Tie as tie
 
 enum-known-inserted : tie.Need-enum-known-inserted
 enum-known-inserted c = search needs

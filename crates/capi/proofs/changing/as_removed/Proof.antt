@@ -1,9 +1,9 @@
--- `capi::writing::as_removed`, case by case. Assumes nothing.
+-- `capi::changing::as_removed`, case by case. Assumes nothing.
 use mathlib.Core.Path.{ap, sym}
 use Rattle.capi.specs.Writing.{removedOf}
 use borrow.Author.Needs.{needs}
-use Rattle.capi.proofs.writing.as_removed.Statement.{statement}
-use Rattle.capi.proofs.writing.as_removed.Tie as tie
+use Rattle.capi.proofs.changing.as_removed.Statement.{statement}
+use Rattle.capi.proofs.changing.as_removed.Tie as tie
 
 enum-known-removed : tie.Need-enum-known-removed
 enum-known-removed c = search needs
