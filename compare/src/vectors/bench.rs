@@ -1,8 +1,9 @@
 //! What `crates/vectors` keeps between its calls, with the original in the place of the proved
 //! code: each call's line of the list, and the line that answers it.
 
-use crate::model::planning::{Plan, Specs};
-use crate::model::{self, Filter, Numbers, Place, planning};
+use super::listing::Listing;
+use super::plans;
+use crate::model::{self, Filter, Numbers};
 use crate::original::{number_of, numbers_of};
 use std::fmt::Write;
 
@@ -18,14 +19,6 @@ struct Lent {
     numbers: Numbers,
     size: u64,
     room: Vec<u8>,
-}
-
-/// A listing: what it gives, every place, and how far it is.
-#[derive(Default)]
-struct Listing {
-    fingerprints: Vec<u64>,
-    places: Vec<Place>,
-    at: usize,
 }
 
 pub struct Bench {
@@ -126,10 +119,10 @@ impl Bench {
 
     fn answer(&mut self, Line(kind, x, y, z): Line) -> Result<String, u64> {
         match kind {
-            'e' => Ok(select(x, y)),
-            'q' => slots(x),
-            't' => specs(x, f64::from_bits(y)),
-            'w' => plan(x, y, f64::from_bits(z)),
+            'e' => Ok(plans::select(x, y)),
+            'q' => plans::slots(x),
+            't' => plans::specs(x, f64::from_bits(y)),
+            'w' => plans::plan(x, y, f64::from_bits(z)),
             'k' => self.own.check().map(|_| "sound".into()),
             'c' | 'C' => self.contains(kind, x),
             'n' | 'N' => self.count(kind, x),
@@ -190,6 +183,18 @@ impl Bench {
                 if kind == 'a' { self.insert('I', hash, u64::MAX) } else { self.remove('M', hash) };
         }
         Ok("many".into())
+    }
+
+    fn begin(&mut self) -> Result<String, u64> {
+        self.own.check()?;
+        self.listing = Listing::of(&self.own.original());
+        Ok(format!("at{}", self.listing.place()))
+    }
+
+    /// A step asks 1 to 5 alone.
+    fn step(&mut self) -> Result<String, u64> {
+        model::due_before_image(self.own.numbers, self.own.bytes().len() as u64)?;
+        Ok(self.listing.step())
     }
 
     fn fresh(&mut self, size: u64, widths: u64) -> Result<String, u64> {
@@ -259,90 +264,4 @@ impl Bench {
         }
         if kind == 'r' { "record" } else { "swapped" }.into()
     }
-}
-
-/// The listing, by the original's own iterator.
-impl Bench {
-    fn begin(&mut self) -> Result<String, u64> {
-        self.own.check()?;
-        self.listing = Listing::of(&self.own.original());
-        Ok(format!("at{}", self.listing.place()))
-    }
-
-    fn step(&mut self) -> Result<String, u64> {
-        model::due_before_image(self.own.numbers, self.own.bytes().len() as u64)?;
-        let Listing { fingerprints, at, .. } = &mut self.listing;
-        let Some(fingerprint) = fingerprints.get(*at) else {
-            return Ok("done".into());
-        };
-        *at += 1;
-        Ok(format!("fingerprint {fingerprint:016x}"))
-    }
-}
-
-impl Listing {
-    fn of(filter: &qfilter::Filter) -> Listing {
-        let mut listing = Listing::default();
-        let mut iter = filter.fingerprints();
-        loop {
-            let (quotient, slot, remaining) = iter.place();
-            let Some(fingerprint) = iter.next() else { break };
-            listing.fingerprints.push(fingerprint);
-            listing.places.push(Place { quotient, slot, remaining });
-        }
-        listing
-    }
-
-    /// Where the original's iterator stands; at the end document 01 has all 0.
-    fn place(&self) -> String {
-        let Place { quotient, slot, remaining } =
-            self.places.get(self.at).copied().unwrap_or_default();
-        format!(" {quotient} {slot} {remaining}")
-    }
-}
-
-fn select(word: u64, n: u64) -> String {
-    let found = model::select(word, n);
-    // From 64 on the original departs from its own comment.
-    assert!(n >= 64 || qfilter::Filter::word_select(word, n) == found);
-    found.map_or("nothing".into(), |place| format!("at {place}"))
-}
-
-fn slots(capacity: u64) -> Result<String, u64> {
-    let slots = qfilter::Filter::needed_slots(capacity).map_err(number_of)?;
-    Ok(format!("qbits {}", slots.ilog2()))
-}
-
-/// The original's specs; document 01's must be the same.
-fn specs(capacity: u64, rate: f64) -> Result<String, u64> {
-    let got = qfilter::filter_specs(capacity, rate).map_err(number_of);
-    let right = planning::filter_specs(capacity, rate);
-    let shown = |s: Specs| {
-        format!(
-            "specs {} {} {} {} {:016x} {:016x}",
-            s.max_capacity,
-            s.fingerprint_bits,
-            s.memory_bytes_min,
-            s.memory_bytes_max,
-            s.max_error_ratio.to_bits(),
-            s.bits_per_item.to_bits()
-        )
-    };
-    let got = got.map(crate::drivers::planning::from_original).map(shown);
-    assert_eq!(got, right.map(shown), "a rate where log2 rounds");
-    got
-}
-
-/// The original's plan, unless it asserts or its buffer is too large to make.
-fn plan(initial: u64, max: u64, rate: f64) -> Result<String, u64> {
-    let right = planning::plan(initial, max, rate);
-    if max >= initial && right.map_or(true, |plan| plan.qbits < 20) {
-        let filter = qfilter::Filter::new_resizeable(initial, max, rate).map_err(number_of);
-        let got = filter.map(|filter| {
-            let Numbers { qbits, rbits, max_qbits, .. } = numbers_of(&filter);
-            Plan { qbits, rbits, max_qbits }
-        });
-        assert_eq!(got, right, "a rate where log2 rounds");
-    }
-    right.map(|plan| format!("widths {} {} {}", plan.qbits, plan.rbits, plan.max_qbits))
 }

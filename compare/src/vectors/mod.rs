@@ -2,6 +2,10 @@
 //! files of that crate, made here and compared with those that stand there.
 
 mod bench;
+mod listing;
+mod plans;
+mod rebuilds;
+mod refusals;
 mod script;
 
 use std::path::PathBuf;

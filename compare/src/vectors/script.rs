@@ -2,16 +2,17 @@
 //! document 01 names, and every refusal.
 
 use super::bench::{Bench, Line, widths};
+use super::{rebuilds, refusals};
 use crate::call::Call;
 use crate::generate::Hashes;
 use crate::model::Shape;
 use crate::model::planning::MAX_CAPACITY;
 use crate::seed::{Rng, SEED};
 
-const MAX: u64 = u64::MAX;
+pub const MAX: u64 = u64::MAX;
 
 /// A step that spreads hashes over all quotients.
-const SPREADING: u64 = 0x9e37_79b9_7f4a_7c15;
+pub const SPREADING: u64 = 0x9e37_79b9_7f4a_7c15;
 
 /// The whole list, replayed.
 pub fn replayed() -> Bench {
@@ -25,19 +26,19 @@ pub fn replayed() -> Bench {
         walk(&mut bench, &mut rng, shape, SPREADING);
         walk(&mut bench, &mut rng, shape, 1);
     }
-    refusals(&mut bench);
-    growths(&mut bench);
-    spares(&mut bench);
-    merges(&mut bench);
+    refusals::refusals(&mut bench);
+    rebuilds::growths(&mut bench);
+    rebuilds::spares(&mut bench);
+    rebuilds::merges(&mut bench);
     bench
 }
 
-fn each(bench: &mut Bench, lines: impl IntoIterator<Item = Line>) {
+pub fn each(bench: &mut Bench, lines: impl IntoIterator<Item = Line>) {
     lines.into_iter().for_each(|line| bench.call(line));
 }
 
 /// An empty filter.
-fn fresh(bench: &mut Bench, shape: Shape, max_qbits: u8) {
+pub fn fresh(bench: &mut Bench, shape: Shape, max_qbits: u8) {
     bench.call(Line('f', shape.buffer_len(), widths(shape.qbits, shape.rbits, max_qbits), 0));
 }
 
@@ -152,145 +153,4 @@ fn line(call: Call, quick: bool) -> Line {
         Call::Remove { hash } => Line(letter('m'), hash, 0, 0),
         other => panic!("{other:?} is no call of a walk"),
     }
-}
-
-/// Every checked call, and a step, on a record or a buffer that is wrong; nothing is altered.
-fn refusals(bench: &mut Bench) {
-    let shape = Shape { qbits: 6, rbits: 8 };
-    fresh(bench, shape, 0);
-    each(bench, [Line('a', 0x101, 0x80, 20), Line('l', 0, 0, 0), Line('s', 0, 0, 0)]);
-    let right = widths(6, 8, 0);
-    let wrong = [
-        (20, widths(5, 8, 0), 89),
-        (20, widths(60, 1, 0), 89),
-        (20, widths(6, 0, 0), 89),
-        (20, widths(6, 59, 0), 89),
-        (20, widths(6, 8, 5), 88),
-        (65, right, 90),
-        (65, widths(6, 8, 5), 89),
-        (64, widths(6, 8, 5), 89),
-        (20, widths(6, 8, 14), 89),
-        (20, widths(6, 58, 60), 489),
-        (64, right, 89),
-        (64, widths(6, 8, 13), 89),
-    ];
-    for (len, widths, size) in wrong {
-        bench.call(Line('r', len, widths, size));
-        refused(bench);
-        each(bench, [Line('C', 0x101, 0, 0), Line('I', 0x101, 1, 0), Line('s', 0, 0, 0)]);
-    }
-    // Number 6: a len that is off by one, then a damaged byte of each kind, put right again.
-    each(bench, [Line('r', 19, right, 89), Line('k', 0, 0, 0), Line('r', 21, right, 89)]);
-    refused(bench);
-    bench.call(Line('r', 20, right, 89));
-    let bytes = bench.filter().image();
-    for at in [0, 1, 8, 9, 16, 17, 40, 80, 81, 88] {
-        let byte = u64::from(bytes[at]);
-        each(bench, [Line('b', at as u64, byte ^ 0x10, 0), Line('k', 0, 0, 0)]);
-        each(bench, [Line('i', 0x101, 1, 0), Line('b', at as u64, byte, 0)]);
-    }
-    // Two remainders of one run change places.
-    each(bench, [Line('b', 18, 0x81, 0), Line('b', 19, 0x01, 0), Line('k', 0, 0, 0)]);
-    each(bench, [Line('b', 18, 0x01, 0), Line('b', 19, 0x81, 0), Line('k', 0, 0, 0)]);
-    bench.call(Line('b', 3, 0xff, 0));
-    refused(bench);
-    each(bench, [Line('b', 3, bytes[3].into(), 0), Line('k', 0, 0, 0)]);
-    // A fresh filter asks 1, 4, 12.
-    let asked = [(89, 5, 8, 99), (88, 6, 8, 5), (88, 6, 8, 0), (90, 6, 8, 0), (0, 6, 8, 13)];
-    each(bench, asked.map(|(size, q, r, max)| Line('f', size, widths(q, r, max), 0)));
-    bench.call(Line('r', 20, right, 89));
-    bench.call(Line('k', 0, 0, 0));
-}
-
-/// Every checked call on one filter.
-fn refused(bench: &mut Bench) {
-    each(bench, ['k', 'c', 'n', 'm', 'l'].map(|kind| Line(kind, 0x101, 0, 0)));
-    each(bench, [Line('i', 0x101, MAX, 0), Line('g', 170, 0, 0), Line('j', 89, 1, 0)]);
-    bench.call(Line('p', 0x101, MAX, 170));
-}
-
-fn growths(bench: &mut Bench) {
-    let shape = Shape { qbits: 6, rbits: 58 };
-    fresh(bench, shape, 9);
-    bench.call(Line('a', 0x0123_4567_89ab_cdef, SPREADING, 61));
-    each(bench, [Line('i', 1, 1, 0), Line('g', 953, 0, 0), Line('g', 955, 0, 0)]);
-    for (qbits, rbits) in [(7, 57), (8, 56), (9, 55)] {
-        bench.call(Line('g', Shape { qbits, rbits }.buffer_len(), 0, 0));
-        each(bench, [Line('d', 0, 0, 0), Line('k', 0, 0, 0), Line('i', 1, 2, 0)]);
-        each(bench, [Line('l', 0, 0, 0), Line('S', 0, 0, 0), Line('n', 1, 0, 0)]);
-    }
-    each(bench, [Line('g', 3664, 0, 0), Line('g', 0, 0, 0)]);
-    // One long run, which falls apart by its remainders' highest bit.
-    fresh(bench, Shape { qbits: 7, rbits: 8 }, 8);
-    each(bench, [Line('a', 0x7f00, 4, 90), Line('g', 300, 0, 0), Line('d', 0, 0, 0)]);
-    each(bench, [Line('k', 0, 0, 0), Line('g', 300, 0, 0)]);
-    fresh(bench, Shape { qbits: 6, rbits: 8 }, 0);
-    bench.call(Line('g', 170, 0, 0));
-}
-
-/// Inserts with a spare: in the old buffer up to capacity, then in a spare of the right length.
-fn spares(bench: &mut Bench) {
-    let (small, large) = (Shape { qbits: 6, rbits: 8 }, Shape { qbits: 7, rbits: 7 });
-    let grown = large.buffer_len();
-    fresh(bench, small, 7);
-    each(bench, [Line('a', 0x0201, SPREADING, 59), Line('p', 0x0201, 1, grown)]);
-    each(bench, [Line('p', 0x0202, MAX, 0), Line('P', 0x0203, MAX, grown)]);
-    // Full: enough copies need no room, and the spare is looked at only then.
-    each(bench, [Line('p', 0x0203, 1, 0), Line('p', 0x0204, 1, grown - 1)]);
-    each(bench, [Line('p', 0x0204, 1, grown), Line('P', 0x0203, 2, grown), Line('d', 0, 0, 0)]);
-    each(bench, [Line('k', 0, 0, 0), Line('n', 0x0203, 0, 0), Line('p', 0x0204, 1, 300)]);
-    each(bench, [Line('a', 0x0301, SPREADING, 122), Line('p', 0x3f00, MAX, 300)]);
-    bench.call(Line('r', 128, widths(7, 7, 7), grown));
-    each(bench, [Line('p', 0, 1, 300), Line('P', 0, 1, 300)]);
-}
-
-/// The filter of these hashes as the other one.
-fn other(bench: &mut Bench, shape: Shape, first: u64, step: u64, times: u64) {
-    fresh(bench, shape, 0);
-    each(bench, [Line('a', first, step, times), Line('o', 0, 0, 0)]);
-}
-
-fn merges(bench: &mut Bench) {
-    let (small, large) = (Shape { qbits: 6, rbits: 8 }, Shape { qbits: 7, rbits: 7 });
-    // Equal widths: multiplicities add, or each is held once; capacity may ask for a larger one.
-    other(bench, large, 0x105, 0x33, 50);
-    for (max_qbits, count, sizes) in [(0, 20, [89, 154]), (7, 20, [89, 154]), (7, 61, [154, 89])] {
-        fresh(bench, small, max_qbits);
-        bench.call(Line('a', 0x105, 0x66, count));
-        bench.call(Line('a', 0x105, 0, 3));
-        for size in sizes {
-            each(bench, [Line('j', size, 1, 0), Line('j', size, 0, 0)]);
-        }
-        each(bench, [Line('j', 90, 1, 0), Line('d', 0, 0, 0), Line('k', 0, 0, 0)]);
-    }
-    // As many as fit, and one more; then a side whose repeats count once.
-    other(bench, small, 0x0001, 0x104, 31);
-    for (max_qbits, count) in [(0, 30), (7, 31), (0, 31)] {
-        fresh(bench, small, max_qbits);
-        bench.call(Line('a', 0x2080, 0x0101, count));
-        each(bench, [Line('j', 89, 1, 0), Line('j', 154, 1, 0)]);
-    }
-    other(bench, small, 0x0001, 0, 40);
-    fresh(bench, small, 0);
-    each(bench, [Line('a', 0x2080, 0x0101, 30), Line('j', 89, 0, 0), Line('j', 89, 1, 0)]);
-    // Other wider: cut to self's width, and 7 where an added copy would pass capacity.
-    other(bench, Shape { qbits: 7, rbits: 8 }, 0x4105, 0x33, 40);
-    for count in [0, 15, 30, 60] {
-        fresh(bench, small, 0);
-        bench.call(Line('a', 0x105, 0x66, count));
-        each(bench, [Line('j', 89, 0, 0), Line('j', 89, 1, 0), Line('j', 170, 0, 0)]);
-        each(bench, [Line('d', 0, 0, 0), Line('k', 0, 0, 0)]);
-    }
-    // Two that are cut to the same are one.
-    fresh(bench, Shape { qbits: 7, rbits: 8 }, 0);
-    each(bench, [Line('a', 0x0010, 0x100, 10), Line('a', 0x4010, 0x100, 10), Line('o', 0, 0, 0)]);
-    fresh(bench, small, 0);
-    each(bench, [Line('a', 0x0020, 0x100, 51), Line('j', 89, 0, 0), Line('j', 89, 1, 0)]);
-    // Other narrower, and then wrong filters: the first's number comes first, then the second's.
-    other(bench, Shape { qbits: 6, rbits: 7 }, 0x105, 0x33, 30);
-    fresh(bench, small, 0);
-    each(bench, [Line('a', 0x105, 0x66, 61), Line('j', 89, 1, 0), Line('j', 0, 0, 0)]);
-    each(bench, [Line('o', 0, 0, 0), Line('b', 80, 1, 0), Line('o', 0, 0, 0), Line('j', 89, 1, 0)]);
-    each(bench, [Line('r', 64, widths(6, 8, 0), 89), Line('j', 0, 1, 0), Line('o', 0, 0, 0)]);
-    each(bench, [Line('j', 0, 1, 0), Line('b', 80, 0, 0), Line('j', 0, 1, 0), Line('k', 0, 0, 0)]);
 }
