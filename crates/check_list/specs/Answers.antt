@@ -16,7 +16,8 @@ use Rattle.layout.specs.declared.numbers.Numbers.{Numbers}
 use Rattle.filter.specs.declared.listing.Place.{Place}
 use Rattle.filter.specs.declared.listing.Begun.the-variants as begun
 use Rattle.layout.specs.Verdicts.{lowestDue, SoundOf}
-use Rattle.filter.specs.Listing.{Begins, passed-whole}
+use Rattle.layout.specs.Judging.{clear-whole}
+use Rattle.filter.specs.Listing.{Begins}
 use Rattle.filter.specs.Places.{placeOf}
 use Rattle.check_list.specs.Report.{numbersOf, bufferOf, maxQbits, headerDue, numberDue, refused, sound, checked, answer, reportFor, reportOf}
 use Rattle.check_list.specs.Steps.{Ready}
@@ -30,7 +31,7 @@ part s = take-all (length s - 13) (drop 13 s) (omega (arith, length-drop 13 s))
 -- a sound buffer holds one list
 pub same-held : (n : Numbers) (s : List ℕ) (h h′ : SoundOf n s) → h .held ≡ h′ .held
 same-held n s h h′ =
-    image-tells (n .qbits) (n .rbits) (passed-whole n s (h .none) .widths .low) (h .held) (h′ .held) (h .holds .holding) (h′ .holds .holding) (sym (h .holds .bytes) ∙ h′ .holds .bytes)
+    image-tells (n .qbits) (n .rbits) (clear-whole n s (h .none) .widths .low) (h .held) (h′ .held) (h .holds .holding) (h′ .holds .holding) (sym (h .holds .bytes) ∙ h′ .holds .bytes)
 
 answer-some : (k : ℕ) (text : List ℕ) → 0 < k → answer k text ≡ refused k
 unfolding answer
