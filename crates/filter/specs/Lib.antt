@@ -10,5 +10,6 @@ pub mod Pinned
 pub mod Places
 pub mod Reading
 pub mod Runs
+pub mod Says
 pub mod Scan
 pub mod Steps

@@ -7,12 +7,12 @@ use lib.Pow.{pow-pos}
 use mathlib.Core.List.{List}
 use lib.ListN.{length}
 use Rattle.theory.specs.Shape.{slots, fingerprint}
-use Rattle.theory.specs.Holding.{Holding, run, copies}
+use Rattle.theory.specs.Holding.{Holding, run, copies, seek}
 use Rattle.theory.specs.number.Bytes.{le}
 use Rattle.theory.specs.layout.Block.{views}
 use Rattle.theory.specs.Image.{Views, many, occ}
 use Rattle.theory.specs.tools.Choose.{choose, choose-no}
-use Rattle.theory.specs.list.Seek.{seek, seek-le, copies-run}
+use Rattle.theory.specs.list.Seek.{seek-le, copies-run}
 use Rattle.theory.specs.list.Copies.{copies-le}
 use Rattle.theory.specs.layout.Views.{Image, many-at}
 use Rattle.theory.specs.layout.Behind.{Runs, image-runs}

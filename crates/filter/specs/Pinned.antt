@@ -1,9 +1,6 @@
 -- What the promises of this crate's public calls pin down: of each, any two outcomes (the answer with its record, and every lent byte where the call writes) that keep its promise coincide.
 -- Checked calls: for all inputs. Quick calls: where a number 1 to 5 is due or the buffer is sound. Steps of a listing: there, from any place of the list held and from its end.
 -- What is left open is in docs/EXCEPTIONS.md. Assumes nothing.
-use Rattle.filter.specs.declared.contains.Lookup.the-variants as lookup
-use Rattle.filter.specs.declared.contains.Counting.the-variants as counting
-use Rattle.filter.specs.declared.listing.Begun.the-variants as begun
 use Prim.Native.Nat.{ℕ, suc, _<_}
 use mathlib.Core.Path.{_≡_, sym, ap, subst, _∙_}
 use mathlib.Core.Logic.{_⊎_, inl, inr}
@@ -11,8 +8,9 @@ use mathlib.Core.List.{List}
 use native.Mathlib.Omega.{arith}
 use native.Mathlib.Nat.{eq-zero-or-pos}
 use denote.Ref.{RefT, now}
+use Rattle.theory.specs.Answer.{Answer, gives, refuses}
 use Rattle.theory.specs.Holding.{copies}
-use Rattle.theory.specs.check.Promises.{checked-one, quick-one}
+use Rattle.theory.specs.check.Promises.{checked-one, quick-one, quick-checked}
 use Rattle.layout.specs.declared.numbers.Numbers.{Numbers}
 use Rattle.layout.specs.Verdicts.{lowestDue, SoundOf}
 use Rattle.filter.specs.declared.contains.Lookup.{Lookup}
@@ -23,44 +21,58 @@ use Rattle.filter.specs.declared.listing.Stepped.{Stepped}
 use Rattle.filter.specs.declared.listing.Begun.{Begun}
 use Rattle.filter.specs.declared.reader.Reader.{Reader}
 use Rattle.filter.specs.declared.reader.Two.{Two}
-use Rattle.filter.specs.Asking.{CheckedOn, QuickOn, Contains, ContainsQuick, Count, CountQuick, fingerprintOf, lookupOf}
+use Rattle.filter.specs.Says.{lookupSays, lookup-tells, countingSays, counting-tells, begunSays, begun-tells}
+use Rattle.filter.specs.Asking.{Answers, AnswersQuick, Contains, ContainsQuick, Count, CountQuick, fingerprintOf, lookupOf}
 use Rattle.filter.specs.Places.{stepped, nowhere, placeOf}
-use Rattle.filter.specs.Listing.{HoldsOf, Begins, Listed}
+use Rattle.filter.specs.Listing.{HoldsOf, Begins, Listed, step-is-one}
 use Rattle.filter.specs.Reading.{Moved, TwoListed}
-use Rattle.filter.specs.Steps.{step-place}
 
 -- a number 1 to 5 is due, or the buffer is sound
 abbrev pub Settled : Numbers → List ℕ → Type 0
 Settled n s = (0 < lowestDue n s) ⊎ SoundOf n s
 
--- ---- calls that only answer: each number has its answer, and so has each list held
-module _ {O : Type 0} (no : ℕ → O) (yes : List ℕ → O) (n : Numbers) (s : List ℕ) where
-  checked-answer : (a b : O) → CheckedOn n s (λ k. a ≡ no k) (λ l. a ≡ yes l) → CheckedOn n s (λ k. b ≡ no k) (λ l. b ≡ yes l) → a ≡ b
-  checked-answer = checked-one (λ k a. a ≡ no k) (λ l a. a ≡ yes l) _ _ _ _ s (λ k a b x y. x ∙ sym y) (λ l h a b x y. x ∙ sym y)
+-- ---- calls that only answer: what they say is one, and tells the answer
+module _ {E A : Type 0} (says : E → Answer A) (tells : (a b : E) → says a ≡ says b → a ≡ b) (right : List ℕ → A) (n : Numbers) (s : List ℕ) where
+  abbrev No : ℕ → E → Type 0
+  No k a = says a ≡ refuses k
 
-  quick-answer : Settled n s → (a b : O) → QuickOn n s (λ k. a ≡ no k) (λ l. a ≡ yes l) (Unit {0}) → QuickOn n s (λ k. b ≡ no k) (λ l. b ≡ yes l) (Unit {0}) → a ≡ b
-  quick-answer = quick-one (λ k a. a ≡ no k) (λ l a. a ≡ yes l) _ _ _ _ s (λ k a b x y. x ∙ sym y) (λ l h a b x y. x ∙ sym y) (λ _. Unit {0})
+  abbrev Right : List ℕ → E → Type 0
+  Right l a = says a ≡ gives (right l)
+
+  one : {v : Answer A} (a b : E) → says a ≡ v → says b ≡ v → a ≡ b
+  one a b x y = tells a b (x ∙ sym y)
+
+  checked-answer : (a b : E) → Answers n s right (says a) → Answers n s right (says b) → a ≡ b
+  checked-answer = checked-one No Right _ _ _ _ s (λ k. one) (λ l h. one)
+
+  quick-answer : Settled n s → (a b : E) → AnswersQuick n s right (says a) → AnswersQuick n s right (says b) → a ≡ b
+  quick-answer = quick-one No Right _ _ _ _ s (λ k. one) (λ l h. one) (λ _. Unit {0})
+
+  pub quick-checked-answer : Settled n s → (a b : E) → AnswersQuick n s right (says a) → Answers n s right (says b) → a ≡ b
+  quick-checked-answer = quick-checked No Right _ _ _ _ s (λ k. one) (λ l h. one) (λ _. Unit {0})
 
 pub contains-fingerprint-pinned : (n : Numbers) (s : List ℕ) (hash : ℕ) (a b : Lookup) → Contains n s hash a → Contains n s hash b → a ≡ b
-contains-fingerprint-pinned n s hash = checked-answer lookup.Refused (lookupOf n (fingerprintOf n hash)) n s
+contains-fingerprint-pinned n s hash = checked-answer lookupSays lookup-tells (lookupOf n (fingerprintOf n hash)) n s
 
 pub contains-fingerprint-quick-pinned : (n : Numbers) (s : List ℕ) (hash : ℕ) → Settled n s → (a b : Lookup) → ContainsQuick n s hash a → ContainsQuick n s hash b → a ≡ b
-contains-fingerprint-quick-pinned n s hash = quick-answer lookup.Refused (lookupOf n (fingerprintOf n hash)) n s
+contains-fingerprint-quick-pinned n s hash = quick-answer lookupSays lookup-tells (lookupOf n (fingerprintOf n hash)) n s
 
 pub count-fingerprint-pinned : (n : Numbers) (s : List ℕ) (hash : ℕ) (a b : Counting) → Count n s hash a → Count n s hash b → a ≡ b
-count-fingerprint-pinned n s hash = checked-answer counting.Refused (λ l. counting.Copies (copies (fingerprintOf n hash) l)) n s
+count-fingerprint-pinned n s hash = checked-answer countingSays counting-tells (copies (fingerprintOf n hash)) n s
 
 pub count-fingerprint-quick-pinned : (n : Numbers) (s : List ℕ) (hash : ℕ) → Settled n s → (a b : Counting) → CountQuick n s hash a → CountQuick n s hash b → a ≡ b
-count-fingerprint-quick-pinned n s hash = quick-answer counting.Refused (λ l. counting.Copies (copies (fingerprintOf n hash) l)) n s
+count-fingerprint-quick-pinned n s hash = quick-answer countingSays counting-tells (copies (fingerprintOf n hash)) n s
 
 pub begin-pinned : (n : Numbers) (s : List ℕ) (a b : Begun) → Begins n s a → Begins n s b → a ≡ b
-begin-pinned n s = checked-answer begun.Refused (λ l. begun.At (placeOf (n .qbits) (n .rbits) l 0)) n s
+begin-pinned n s = checked-answer begunSays begun-tells (λ l. placeOf (n .qbits) (n .rbits) l 0) n s
 
--- ---- for calls that write: an outcome is the answer and the buffer afterwards
-pub alike : {A : Type 0} {a : A} {t : List ℕ} (x y : A × List ℕ) → (x .0 ≡ a) × (x .1 ≡ t) → (y .0 ≡ a) × (y .1 ≡ t) → x ≡ y
-alike x y p q = λ i. ((p .0 ∙ sym (q .0)) i, (p .1 ∙ sym (q .1)) i)
+-- ---- for calls that write: an outcome is the answer and the rest, the buffer or buffers afterwards
+pub alike : {E A R : Type 0} (says : E → A) → ((a b : E) → says a ≡ says b → a ≡ b) → {v : A} {t : R} (x y : E × R) → (says (x .0) ≡ v) × (x .1 ≡ t) → (says (y .0) ≡ v) × (y .1 ≡ t) → x ≡ y
+alike says tells x y p q =
+    let e = tells (x .0) (y .0) (p .0 ∙ sym (q .0)) in
+    λ i. (e i, (p .1 ∙ sym (q .1)) i)
 
-pub apart : {A : Type 0} (x y : A × List ℕ) → x ≡ y → (x .0 ≡ y .0) × (x .1 ≡ y .1)
+pub apart : {E R : Type 0} (x y : E × R) → x ≡ y → (x .0 ≡ y .0) × (x .1 ≡ y .1)
 apart x y e = (ap (λ z. z .0) e, ap (λ z. z .1) e)
 
 -- ---- steps of a listing
@@ -72,10 +84,10 @@ pub step-from-pinned : (n : Numbers) (s : List ℕ) (p : Place) → Fixed n s p 
 step-from-pinned n s p f a b x y = go f (eq-zero-or-pos (lowestDue n s))
   where
     go : Fixed n s p → (lowestDue n s ≡ 0) ⊎ (0 < lowestDue n s) → a ≡ b
-    go f (inr d) = x .refused d ∙ sym (y .refused d)
+    go f (inr d) = step-is-one a b _ _ (x .refused d) (y .refused d)
     go (inl d) (inl e) = absurd (omega arith)
-    go (inr (inl z)) (inl e) = x .stays e z ∙ sym (y .stays e z)
-    go (inr (inr z)) (inl e) = x .right e (z .0) (z .2) (z .1) (z .3) ∙ sym (y .right e (z .0) (z .2) (z .1) (z .3))
+    go (inr (inl z)) (inl e) = step-is-one a b _ _ (x .stays e z) (y .stays e z)
+    go (inr (inr z)) (inl e) = step-is-one a b _ _ (x .right e (z .0) (z .2) (z .1) (z .3)) (y .right e (z .0) (z .2) (z .1) (z .3))
 
 -- the step with the place lent: the answer, and the place afterwards
 pub step-on-pinned : (n : Numbers) (s : List ℕ) (p : Place) → Fixed n s p → (a b : Step) (p₁ p₂ : Place) → Listed n s p (stepped a p₁) → Listed n s p (stepped b p₂) → (a ≡ b) × (p₁ ≡ p₂)
@@ -91,9 +103,8 @@ fixed-next n s p f a x = go f (eq-zero-or-pos (lowestDue n s))
     go : Fixed n s p → (lowestDue n s ≡ 0) ⊎ (0 < lowestDue n s) → Fixed n s (a .place)
     go f (inr d) = inl d
     go (inl d) (inl e) = inl d
-    go (inr (inl z)) (inl e) = inr (inl (ap (λ (y : Stepped). y .place) (x .stays e z)))
-    go (inr (inr z)) (inl e) =
-        inr (inr (z .0, suc (z .1), z .2, ap (λ (y : Stepped). y .place) (x .right e (z .0) (z .2) (z .1) (z .3)) ∙ step-place (n .qbits) (n .rbits) (z .0) (z .1)))
+    go (inr (inl z)) (inl e) = inr (inl (x .stays e z .place))
+    go (inr (inr z)) (inl e) = inr (inr (z .0, suc (z .1), z .2, x .right e (z .0) (z .2) (z .1) (z .3) .place))
 
 -- ---- the reader
 pub reader-new-pinned : (s : RefT (List ℕ)) (n : Numbers) (p : Place) (a b : Reader)

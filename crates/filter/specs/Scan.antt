@@ -8,9 +8,8 @@ use native.Mathlib.Decide.{decLe}
 use native.Mathlib.Numerals.{add-one}
 use lib.ListN.{length, getD, drop}
 use Rattle.theory.specs.tools.Choose.{choose, choose-yes, choose-no}
-use Rattle.theory.specs.Holding.{copies}
+use Rattle.theory.specs.Holding.{copies, seek}
 use Rattle.theory.specs.Image.{Views}
-use Rattle.theory.specs.list.Seek.{seek}
 use Rattle.theory.specs.list.Scan.{seek-pass, seek-stop, copies-pass, copies-meet, seek-over, copies-over, copies-next, seek-copies}
 use Rattle.theory.specs.layout.RunAt.{RunAt}
 use Rattle.filter.specs.declared.lookup.Seen.{Seen}

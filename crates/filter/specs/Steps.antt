@@ -2,25 +2,24 @@
 -- that after so many steps. Assumes nothing.
 use Prim.Native.Nat.{ℕ, zero, suc, _+_, _-_, _≤_, _<_}
 use mathlib.Core.Path.{_≡_, refl, sym, ap, ap₂, subst, _∙_}
-use mathlib.Core.Logic.{_⊎_, inl, inr}
 use mathlib.Core.List.{List, [], _∷_, _++_, map}
 use native.Mathlib.Omega.{arith}
 use native.Mathlib.Decide.{decLt}
-use native.Mathlib.Nat.{add-zero, eq-zero-or-pos}
+use native.Mathlib.Nat.{add-zero}
 use lib.ListN.{length, getD, take, drop, length-append, length-drop, length-map, replicate}
 use lib.Seq.{drop-cons}
 use Rattle.theory.specs.layout.Images.{image-tells}
-use Rattle.theory.specs.check.Decides.{sound-dec}
+use Rattle.theory.specs.check.Promises.{not-refused}
 use Rattle.layout.specs.declared.numbers.Numbers.{Numbers}
 use Rattle.filter.specs.declared.listing.Place.{Place}
 use Rattle.filter.specs.declared.listing.Step.{Step}
 use Rattle.filter.specs.declared.listing.Step.the-variants.{Fingerprint, Done}
 use Rattle.filter.specs.declared.listing.Stepped.{Stepped}
 use Rattle.filter.specs.declared.listing.Begun.the-variants as begun
-use Rattle.layout.specs.Verdicts.{lowestDue, SoundOf}
+use Rattle.layout.specs.Verdicts.{lowestDue}
 use Rattle.filter.specs.Places.{stepped, nowhere, done, placeOf, stepOf, place-none, place-left, step-some, step-none}
 use Rattle.layout.specs.Judging.{clear-whole}
-use Rattle.filter.specs.Listing.{HoldsOf, Begins, Listed}
+use Rattle.filter.specs.Listing.{HoldsOf, Begins, Listed, step-is, listed-step, listed-done}
 
 -- ---- the steps of a list
 drop-over : (k : ℕ) (l : List ℕ) → length l ≤ k → drop k l ≡ []
@@ -107,7 +106,7 @@ module _ (n : Numbers) (s l : List ℕ) (e : lowestDue n s ≡ 0) (h : HoldsOf n
   unfolding Goes answers
   goes-from [] k p p′ f g = (refl, sym g ∙ f ∙ ap (placeOf (n .qbits) (n .rbits) l) (sym (add-zero k)))
   goes-from (a ∷ ts) k p p′ f g =
-      let t : stepped a (g .0) ≡ stepOf (n .qbits) (n .rbits) l k = g .1 .right e l h k f in
+      let t : stepped a (g .0) ≡ stepOf (n .qbits) (n .rbits) l k = listed-step n s l e h _ _ (g .1) k f in
       let i = goes-from ts (suc k) (g .0) p′ (ap (λ (z : Stepped). z .place) t ∙ step-place (n .qbits) (n .rbits) l k) (g .2) in
       let j : suc k + length ts ≡ k + suc (length ts) = omega arith in
       (ap₂ _∷_ (ap (λ (z : Stepped). z .step) t) (i .0), rw j at (i .1))
@@ -141,11 +140,11 @@ module _ (n : Numbers) (s l : List ℕ) (e : lowestDue n s ≡ 0) (h : HoldsOf n
   pub listed-is : (k : ℕ) → Listed n s (placeOf (n .qbits) (n .rbits) l k) (stepOf (n .qbits) (n .rbits) l k)
   listed-is k = record {
     refused = λ d. absurd (omega arith);
-    stays = λ _ z. step-none (n .qbits) (n .rbits) l k (omega (arith, place-left (n .qbits) (n .rbits) l k, ap (λ (p : Place). p .remaining) z));
+    stays = λ _ z. rw (step-none (n .qbits) (n .rbits) l k (omega (arith, place-left (n .qbits) (n .rbits) l k, ap (λ (p : Place). p .remaining) z))) (record { says = refl; place = refl });
     right = λ _ l′ h′ k′ z.
         let t : l′ ≡ l = image-tells (n .qbits) (n .rbits) (clear-whole n s e .widths .low) l′ l (h′ .holding) (h .holding) (sym (h′ .bytes) ∙ h .bytes) in
-        same-step (n .qbits) (n .rbits) l k k′ (z ∙ ap (λ (y : List ℕ). placeOf (n .qbits) (n .rbits) y k′) t)
-        ∙ ap (λ (y : List ℕ). stepOf (n .qbits) (n .rbits) y k′) (sym t);
+        rw (same-step (n .qbits) (n .rbits) l k k′ (z ∙ ap (λ (y : List ℕ). placeOf (n .qbits) (n .rbits) y k′) t)
+        ∙ ap (λ (y : List ℕ). stepOf (n .qbits) (n .rbits) y k′) (sym t)) (step-is (n .qbits) (n .rbits) l′ k′);
   }
 
   pub goes-on : (c k : ℕ) → Goes n s (placeOf (n .qbits) (n .rbits) l k) (answers (n .qbits) (n .rbits) l k c) (placeOf (n .qbits) (n .rbits) l (k + c))
@@ -159,15 +158,9 @@ module _ (n : Numbers) (s l : List ℕ) (e : lowestDue n s ≡ 0) (h : HoldsOf n
 -- ---- from the beginning
 -- a beginning that is not refused: the buffer holds a list, and the place is that of its first fingerprint
 pub begun-at : (n : Numbers) (s : List ℕ) (p : Place) → Begins n s (begun.At p) → (l : List ℕ) × HoldsOf n s l × (lowestDue n s ≡ 0) × (p ≡ placeOf (n .qbits) (n .rbits) l 0)
-begun-at n s p b = go (eq-zero-or-pos (lowestDue n s)) (sound-dec (n .qbits) (n .rbits) (n .len) (n .«max_qbits») s)
-  where
-    never : (k : ℕ) → begun.At p ≡ begun.Refused k → ⊥
-    never k e = let z : _≡_ {A = ℕ} 0 1 = cc in omega arith
-
-    go : (lowestDue n s ≡ 0) ⊎ (0 < lowestDue n s) → Dec (SoundOf n s) → (l : List ℕ) × HoldsOf n s l × (lowestDue n s ≡ 0) × (p ≡ placeOf (n .qbits) (n .rbits) l 0)
-    go (inr d) y = absurd (never _ (b .early d))
-    go (inl e) (no y) = absurd (never _ (b .damaged e y))
-    go (inl e) (yes y) = (y .held, y .holds, e, cc (b .sound e (y .held) (y .holds)))
+begun-at n s p b =
+    let y = not-refused _ _ _ _ s _ _ b (λ k e. let z : _≡_ {A = ℕ} 0 1 = cc in omega arith) in
+    (y .0 .held, y .0 .holds, y .0 .none, cc (y .1))
 
 -- len + 1 steps from its place: the fingerprints of that list, then done
 pub begun-listing : (n : Numbers) (s : List ℕ) (p p′ : Place) (ts : List Step) → Begins n s (begun.At p) → length ts ≡ suc (n .len) → Goes n s p ts p′
@@ -190,6 +183,6 @@ pub done-stays : (n : Numbers) (s : List ℕ) → lowestDue n s ≡ 0 → (ts : 
 unfolding Goes
 done-stays n s e [] p g = (refl, sym g)
 done-stays n s e (a ∷ ts) p g =
-    let t : stepped a (g .0) ≡ done = g .1 .stays e refl in
+    let t : stepped a (g .0) ≡ done = listed-done n s e _ (g .1) in
     let i = done-stays n s e ts p (subst (λ (m : Place). Goes n s m ts p) (ap (λ (z : Stepped). z .place) t) (g .2)) in
     (ap₂ _∷_ (ap (λ (z : Stepped). z .step) t) (i .0), i .1)

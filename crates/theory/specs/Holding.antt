@@ -40,6 +40,11 @@ unfoldable pub copies : ℕ → List ℕ → ℕ
 copies f [] = 0
 copies f (g ∷ l) = choose (ℕ-discrete g f) (suc (copies f l)) (copies f l)
 
+-- the place, from 1, of the first that equals r, or how many there are if none does
+unfoldable pub seek : ℕ → List ℕ → ℕ
+seek r [] = 0
+seek r (g ∷ l) = choose (ℕ-discrete g r) 1 (suc (seek r l))
+
 -- fewer than m fingerprints, ascending, with quotients below m and remainders below R
 pub record Holding (m R : ℕ) (l : List ℕ) : Type 0 where
   pub ascending : Ascending l

@@ -4,7 +4,8 @@ use mathlib.Core.List.{List, [], _∷_, map}
 use native.Mathlib.Decide.{decLe, decLt, ℕ-discrete}
 use lib.ListN.{length}
 use Rattle.theory.specs.tools.Choose.{choose}
-use Rattle.theory.specs.Holding.{copies, more}
+use Rattle.theory.specs.Holding.{more}
+use Rattle.theory.specs.Changing.{upTo}
 use Rattle.theory.specs.Shape.{capacity, fingerprint}
 use Rattle.theory.specs.Planning.{widthFrom}
 
@@ -16,7 +17,7 @@ added l (f ∷ b) = added (more f l) b
 -- only absent ones are added, once each
 unfoldable pub addedOnce : List ℕ → List ℕ → List ℕ
 addedOnce l [] = l
-addedOnce l (f ∷ b) = addedOnce (choose (decLe 1 (copies f l)) l (more f l)) b
+addedOnce l (f ∷ b) = addedOnce (upTo 1 f l) b
 
 -- equal fingerprint widths: with duplicates, multiplicities add; without, each fingerprint held by either is held once
 unfoldable pub joined : ℕ → List ℕ → List ℕ → List ℕ

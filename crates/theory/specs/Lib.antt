@@ -1,3 +1,5 @@
+pub mod Answer
+pub mod Changing
 pub mod Examples
 pub mod Holding
 pub mod Image

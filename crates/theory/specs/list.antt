@@ -1,4 +1,5 @@
 pub mod Adding
+pub mod Changed
 pub mod Copies
 pub mod Fewer
 pub mod Firsts

@@ -1,3 +1,4 @@
 pub mod Cases
 pub mod Choose
+pub mod Tells
 pub mod Total

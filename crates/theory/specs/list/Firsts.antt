@@ -4,12 +4,13 @@ use mathlib.Core.Path.{_≡_, refl, ap, _∙_}
 use mathlib.Core.Logic.{_≢_}
 use mathlib.Core.List.{List, [], _∷_, map}
 use native.Mathlib.Omega.{arith}
-use native.Mathlib.Decide.{decLe, ℕ-discrete}
+use native.Mathlib.Decide.{ℕ-discrete}
 use lib.ListN.{length, getD, take}
 use lib.Seq.{take-length}
-use Rattle.theory.specs.tools.Choose.{choose-by}
 use Rattle.theory.specs.Holding.{copies, more, Ascending}
-use Rattle.theory.specs.list.Adding.{one, copies-once, once-length}
+use Rattle.theory.specs.Changing.{upTo}
+use Rattle.theory.specs.list.Changed.{up-to-by}
+use Rattle.theory.specs.list.Adding.{copies-once, once-length}
 use Rattle.theory.specs.list.Copies.{copies-nil, copies-eq, copies-other}
 use Rattle.theory.specs.list.More.{more-length}
 use Rattle.theory.specs.list.Runs.{ascending-at}
@@ -54,14 +55,14 @@ first-new l k a b ne = taken-none (getD l k 0) l k (λ j u v e. differs j u e)
         ne (omega arith) (omega arith)
 
 -- ---- what is added
-one-length : (f : ℕ) (c : List ℕ) → length (one f c) ≡ length c + (1 - copies f c)
-one-length f c = choose-by (λ (z : List ℕ). length z ≡ length c + (1 - copies f c)) (decLe 1 (copies f c)) (λ h. omega arith) (λ h. omega (arith, more-length f c))
+one-length : (f : ℕ) (c : List ℕ) → length (upTo 1 f c) ≡ length c + (1 - copies f c)
+one-length f c = up-to-by (λ (z : List ℕ). length z ≡ length c + (1 - copies f c)) 1 f c (λ h. omega arith) (λ h. omega (arith, more-length f c))
 
-once-next : (c b : List ℕ) (k : ℕ) → k < length b → addedOnce c (take (suc k) b) ≡ one (getD b k 0) (addedOnce c (take k b))
+once-next : (c b : List ℕ) (k : ℕ) → k < length b → addedOnce c (take (suc k) b) ≡ upTo 1 (getD b k 0) (addedOnce c (take k b))
 unfolding addedOnce
 once-next c [] k h = absurd (omega arith)
 once-next c (g ∷ b) zero h = refl
-once-next c (g ∷ b) (suc k) h = once-next (one g c) b k (omega arith)
+once-next c (g ∷ b) (suc k) h = once-next (upTo 1 g c) b k (omega arith)
 
 -- one more step: 1 if neither the list nor an earlier one has it
 pub once-step : (c b : List ℕ) (k : ℕ) → k < length b
@@ -73,7 +74,7 @@ unfolding addedOnce
 once-part c [] zero = omega arith
 once-part c [] (suc k) = omega arith
 once-part c (g ∷ b) zero = once-length c (g ∷ b) .0
-once-part c (g ∷ b) (suc k) = once-part (one g c) b k
+once-part c (g ∷ b) (suc k) = once-part (upTo 1 g c) b k
 
 -- it depends on which fingerprints are held, and not on how often
 once-like : (c d b : List ℕ) → ((g : ℕ) → min 1 (copies g c) ≡ min 1 (copies g d)) → (k : ℕ) → k ≤ length b

@@ -8,9 +8,8 @@ use native.Mathlib.Decide.{ℕ-discrete, decLe}
 use lib.ListN.{length, getD, drop}
 use lib.Seq.{drop-cons}
 use Rattle.theory.specs.tools.Choose.{choose-no, choose-yes, choose}
-use Rattle.theory.specs.Holding.{copies}
+use Rattle.theory.specs.Holding.{copies, seek}
 use Rattle.theory.specs.list.Copies.{copies-nil, copies-other, copies-eq}
-use Rattle.theory.specs.list.Seek.{seek}
 
 -- at place k of the run: what seek and copies say of the rest
 module _ (r : ℕ) (l : List ℕ) (k : ℕ) (h : k < length l) where

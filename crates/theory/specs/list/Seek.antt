@@ -13,14 +13,9 @@ use lib.ListN.{length, getD, length-append, List·getD-append}
 use lib.Seq.{getD-append-add}
 use Rattle.theory.specs.tools.Choose.{choose, choose-no, choose-by}
 use Rattle.theory.specs.tools.Total.{total, total-suc, total-le}
-use Rattle.theory.specs.Holding.{run, copies, Ascending, Under}
+use Rattle.theory.specs.Holding.{run, copies, seek, Ascending, Under}
 use Rattle.theory.specs.list.Copies.{copies-nil, copies-eq, copies-other}
 use Rattle.theory.specs.list.Runs.{run-here, run-other, run-nil, flat, length-flat, listing}
-
--- how many remainders are compared with r, up to the first equal one
-unfoldable pub seek : ℕ → List ℕ → ℕ
-seek r [] = 0
-seek r (g ∷ l) = choose (ℕ-discrete g r) 1 (suc (seek r l))
 
 pub seek-le : (r : ℕ) (l : List ℕ) → seek r l ≤ length l
 unfolding seek

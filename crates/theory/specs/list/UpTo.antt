@@ -4,20 +4,16 @@ use Prim.Native.Nat.{ℕ, suc, _+_, _^_, _≤_, _<_}
 use mathlib.Core.Path.{_≡_, refl, ap, ap₂, _∙_, sym}
 use mathlib.Core.List.{List, [], _∷_, map}
 use native.Mathlib.Omega.{arith}
-use native.Mathlib.Decide.{decLe}
 use native.Mathlib.Nat.{mod-eq-of-lt}
 use lib.ListN.{length}
-use Rattle.theory.specs.tools.Choose.{choose, choose-by, choose-no}
 use Rattle.theory.specs.Holding.{copies, more, Ascending, Under}
 use Rattle.theory.specs.Shape.{fingerprint}
+use Rattle.theory.specs.Changing.{upTo}
 use Rattle.theory.specs.Joining.{added, addedOnce, joined}
+use Rattle.theory.specs.list.Changed.{up-to-by, up-to-more}
 use Rattle.theory.specs.list.Copies.{copies-le, copies-nil, copies-tell}
 use Rattle.theory.specs.list.More.{more-length, more-ascending}
 use Rattle.theory.specs.list.Adding.{copies-added, added-keeps}
-
--- f inserted
-abbrev pub upTo : ℕ → ℕ → List ℕ → List ℕ
-upTo c f l = choose (decLe c (copies f l)) l (more f l)
 
 unfoldable pub addedUpTo : ℕ → List ℕ → List ℕ → List ℕ
 addedUpTo c l [] = l
@@ -32,7 +28,7 @@ pub up-to-all : (c : ℕ) (l b : List ℕ) → length l + length b ≤ c → add
 unfolding addedUpTo added
 up-to-all c l [] h = refl
 up-to-all c l (f ∷ b) h =
-    let e : upTo c f l ≡ more f l = choose-no (decLe c (copies f l)) l (more f l) (λ z. omega (arith, copies-le f l)) in
+    let e = up-to-more c f l (omega (arith, copies-le f l)) in
     ap (λ (z : List ℕ). addedUpTo c z b) e ∙ up-to-all c (more f l) b (omega (arith, more-length f l))
 
 -- none is lost
@@ -40,7 +36,7 @@ pub up-to-grows : (c : ℕ) (l b : List ℕ) → length l ≤ length (addedUpTo 
 unfolding addedUpTo
 up-to-grows c l [] = omega arith
 up-to-grows c l (f ∷ b) =
-    let d : length l ≤ length (upTo c f l) = choose-by (λ (z : List ℕ). length l ≤ length z) (decLe c (copies f l)) (λ _. omega arith) (λ _. omega (arith, more-length f l)) in
+    let d : length l ≤ length (upTo c f l) = up-to-by (λ (z : List ℕ). length l ≤ length z) c f l (λ _. omega arith) (λ _. omega (arith, more-length f l)) in
     omega (arith, up-to-grows c (upTo c f l) b)
 
 -- an ascending list added to nothing is itself

@@ -1,8 +1,9 @@
 -- `filter::contains::contains_fingerprint`: the check's number, or the core on a sound buffer. Assumes nothing.
-use mathlib.Core.Path.{refl, subst, _∙_}
+use mathlib.Core.Path.{refl, ap, subst, _∙_}
 use denote.Ref.{now}
 use Rattle.layout.specs.Verdicts.{Judged}
 use Rattle.layout.specs.Judging.{checked-refused, checked-sound, clear-whole}
+use Rattle.filter.specs.Says.{lookupSays}
 use Rattle.filter.specs.Asking.{looked}
 use Rattle.layout.specs.declared.check.Verdict.the-variants.{Sound, Refused}
 use borrow.Author.Needs.{needs}
@@ -35,7 +36,7 @@ returns-2 : tie.Need-returns-2
 returns-2 c =
     let v = c .before .before in
     let a = v .before .before .before .before .args in
-    checked-sound _ _ _ _ (sound v) (λ l h. c .lookup-from .ensures ∙ looked (a .n) (now (a .buf)) l (a .hash) _ (clear-whole (a .n) (now (a .buf)) (sound v .none) .widths) (c .before .look .ensures) h)
+    checked-sound _ _ _ _ (sound v) (λ l h. ap lookupSays (c .lookup-from .ensures) ∙ looked (a .n) (now (a .buf)) l (a .hash) _ (clear-whole (a .n) (now (a .buf)) (sound v .none) .widths) (c .before .look .ensures) h)
 
 pub contains-fingerprint-spec : {M : Type 1} → statement M
 contains-fingerprint-spec =

@@ -1,10 +1,11 @@
 -- `filter::contains::contains_fingerprint_quick`: a number of 1 to 5, or the core. Assumes nothing.
 use Prim.Native.Nat.{_<_}
-use mathlib.Core.Path.{_≡_, refl, sym, _∙_}
+use mathlib.Core.Path.{_≡_, refl, ap, _∙_}
 use native.Mathlib.Omega.{arith}
 use denote.Ref.{now}
 use Rattle.layout.specs.Verdicts.{lowestDue}
 use Rattle.layout.specs.Judging.{quick-refused, quick-worked, clear-whole}
+use Rattle.filter.specs.Says.{lookupSays}
 use Rattle.filter.specs.Asking.{looked}
 use borrow.Author.Needs.{needs}
 use Rattle.filter.proofs.contains.contains_fingerprint_quick.Statement.{statement}
@@ -30,7 +31,7 @@ returns-2 : tie.Need-returns-2
 returns-2 c =
     let v = c .before .before in
     let a = v .before .before .before .args in
-    quick-worked _ _ _ _ _ (clear v) (λ l h. c .lookup-from .ensures ∙ looked (a .n) (now (a .buf)) l (a .hash) _ (clear-whole (a .n) (now (a .buf)) (clear v) .widths) (c .before .look .ensures) h) tt
+    quick-worked _ _ _ _ _ (clear v) (λ l h. ap lookupSays (c .lookup-from .ensures) ∙ looked (a .n) (now (a .buf)) l (a .hash) _ (clear-whole (a .n) (now (a .buf)) (clear v) .widths) (c .before .look .ensures) h) tt
 
 pub contains-fingerprint-quick-spec : {M : Type 1} → statement M
 contains-fingerprint-quick-spec =
