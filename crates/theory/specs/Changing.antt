@@ -1,10 +1,16 @@
--- The rules of insert and remove on the list held: which number is due, what is answered, what is held afterwards. f is the fingerprint, l the list.
+-- The rules of insert and remove on the list held; every promise of an insert or a remove cites them. f is the fingerprint, l the list.
 use Prim.Native.Nat.{ℕ, max, min}
 use mathlib.Core.List.{List}
 use native.Mathlib.Decide.{decLe}
 use lib.ListN.{length}
 use Rattle.theory.specs.tools.Choose.{choose}
-use Rattle.theory.specs.Holding.{copies, more}
+use Rattle.theory.specs.Holding.{copies, more, fewer}
+
+-- a rule: the number that is due, 0 for none, what is answered, and what is held afterwards
+pub record Rule : Type 0 where
+  pub due : List ℕ → ℕ
+  pub answer : List ℕ → ℕ
+  pub held : List ℕ → List ℕ
 
 -- how many copies an insert asked with max_count lets be: one at least
 unfoldable pub allowed : ℕ → ℕ
@@ -27,6 +33,14 @@ insertAnswer most f l = min (copies f l) (allowed most)
 unfoldable pub inserted : ℕ → ℕ → List ℕ → List ℕ
 inserted most f l = upTo (allowed most) f l
 
--- ---- remove: true, 1, exactly if it is held; what is held afterwards is `fewer`, which leaves a list without f as it is
+abbrev pub insertRule : ℕ → ℕ → ℕ → Rule
+insertRule capacity most f = record { due = insertDue capacity most f; answer = insertAnswer most f; held = inserted most f }
+
+-- ---- remove
+-- true, 1, exactly if it is held
 unfoldable pub removeAnswer : ℕ → List ℕ → ℕ
 removeAnswer f l = min 1 (copies f l)
+
+-- nothing is due; one copy fewer is held, of an absent one none fewer
+abbrev pub removeRule : ℕ → Rule
+removeRule f = record { due = λ _. 0; answer = removeAnswer f; held = fewer f }

@@ -6,11 +6,14 @@ use native.Mathlib.Omega.{arith}
 use lib.ListN.{length}
 use lib.Pow.{pow-pos}
 use Rattle.theory.specs.Shape.{slots, capacity, blocks, fingerprint}
+use Rattle.theory.specs.Answer.{Answer, gives, refuses}
 use Rattle.theory.specs.Holding.{copies, more, run}
+use Rattle.theory.specs.Changing.{allowed, insertDue, insertAnswer, inserted}
 use Rattle.theory.specs.Image.{Views, many}
 use Rattle.theory.specs.carry.Carry.{FirstFree, first-free}
 use Rattle.theory.specs.list.Seek.{copies-run}
-use Rattle.theory.specs.list.More.{place-le}
+use Rattle.theory.specs.list.Changed.{enough-due, enough-answer, enough-held, full-due, room-due, more-answer, more-held}
+use Rattle.theory.specs.list.More.{place-le, more-length}
 use Rattle.theory.specs.number.Bytes.{le}
 use Rattle.theory.specs.layout.Block.{tailAt, views}
 use Rattle.theory.specs.layout.Views.{many-at}
@@ -27,18 +30,35 @@ use Rattle.filter.specs.Runs.{FreeFrom}
 use Rattle.writing.specs.Spots.{SpotIn, SpotFor}
 use Rattle.filter.specs.Lookup.{Shows, shown-runs}
 
--- m copies are there; c = max(1, max_count). m ≥ c: answer c, no change. Else len ≥ capacity: 7. Else one copy more, answer m
-pub record InsertsAs (h : Shape) (len f most : ℕ) (l : List ℕ) (s : List ℕ) (a : Insertion) (t : List ℕ) : Type 0 where
-  pub enough : max 1 most ≤ copies f l → (a ≡ Enough (max 1 most)) × (t ≡ s)
-  pub full : copies f l < max 1 most → capacity (h .qbits) ≤ len → (a ≡ Refused 7) × (t ≡ s)
-  pub added : copies f l < max 1 most → len < capacity (h .qbits) → (a ≡ Added (copies f l)) × Shows h t (more f l)
+-- what the core of an insert says: the answer, and how many fingerprints are held then
+pub record Tally : Type 0 where
+  pub answer : ℕ
+  pub len : ℕ
 
--- if the buffer shows l, of len fingerprints; and on any buffer the last eight bytes stay
+abbrev pub insertionSays : ℕ → Insertion → Answer Tally
+insertionSays len (Enough c) = gives (record { answer = c; len = len })
+insertionSays len (Added m) = gives (record { answer = m; len = len + 1 })
+insertionSays len (Refused k) = refuses k
+
+-- the rule of insert, if the buffer shows l, of len fingerprints
+pub record InsertsAs (h : Shape) (len f most : ℕ) (l : List ℕ) (s : List ℕ) (a : Insertion) (t : List ℕ) : Type 0 where
+  pub refused : 0 < insertDue (capacity (h .qbits)) most f l → (insertionSays len a ≡ refuses (insertDue (capacity (h .qbits)) most f l)) × (t ≡ s)
+  pub done : insertDue (capacity (h .qbits)) most f l ≡ 0
+      → (insertionSays len a ≡ gives (record { answer = insertAnswer most f l; len = length (inserted most f l) })) × Shows h t (inserted most f l)
+
+-- and on any buffer the last eight bytes stay, and what is refused has changed nothing
 pub record InsertsCore (h : Shape) (len hash most : ℕ) (s : List ℕ) (a : Insertion) (t : List ℕ) : Type 0 where
   pub right : (l : List ℕ) → Shows h s l → length l ≡ len → InsertsAs h len (fingerprint (h .qbits) (h .rbits) hash) most l s a t
+  pub kept : (k : ℕ) → a ≡ Refused k → t ≡ s
   pub tail : tailAt (h .rbits) (blocks (h .qbits)) (le t) ≡ tailAt (h .rbits) (blocks (h .qbits)) (le s)
 
 -- how the code comes to it
+abbrev tally : ℕ → ℕ → Tally
+tally answer len = record { answer = answer; len = len }
+
+same-tally : {a b len len′ : ℕ} → a ≡ b → len ≡ len′ → gives (tally a len) ≡ gives (tally b len′)
+same-tally e f = λ i. gives (tally (e i) (f i))
+
 module _ (h : Shape) (low : 6 ≤ h .qbits) (s : List ℕ) (len hash most x rem : ℕ) (p : Spot)
     (ex : x ≡ fingerprint (h .qbits) (h .rbits) hash / 2 ^ h .rbits) (b : x < slots (h .qbits)) (er : rem ≡ fingerprint (h .qbits) (h .rbits) hash % 2 ^ h .rbits)
     (sp : SpotFor h s x rem p) (c : ℕ) (ec : c ≡ max 1 most) where
@@ -54,6 +74,13 @@ module _ (h : Shape) (low : 6 ≤ h .qbits) (s : List ℕ) (len hash most x rem 
   abbrev counts : List ℕ → ℕ → ℕ
   counts l = many (slots (h .qbits)) (2 ^ h .rbits) l
 
+  abbrev cap : ℕ
+  cap = capacity (h .qbits)
+
+  asked : c ≡ allowed most
+  unfolding allowed
+  asked = ec
+
   spot : (l : List ℕ) → Shows h s l → SpotIn m (counts l) (f / 2 ^ h .rbits) (f % 2 ^ h .rbits) (run (2 ^ h .rbits) l (f / 2 ^ h .rbits)) p
   spot l w = rw (ex, er) at (sp .right l w)
 
@@ -62,22 +89,27 @@ module _ (h : Shape) (low : 6 ≤ h .qbits) (s : List ℕ) (len hash most x rem 
 
   pub core-enough : c ≤ p .copies → InsertsCore h len hash most s (Enough c) s
   core-enough q = record {
-    right = λ l w n. record {
-      enough = λ z. (ap Enough ec, refl);
-      full = λ z y. absurd (omega (arith, tallied l w));
-      added = λ z y. absurd (omega (arith, tallied l w));
-    };
+    right = λ l w n.
+        let enough : allowed most ≤ copies f l = omega (arith, asked, tallied l w) in
+        let held = enough-held cap most f l enough in
+        record {
+          refused = λ z. absurd (omega (arith, enough-due cap most f l enough));
+          done = λ _. (same-tally (asked ∙ sym (enough-answer cap most f l enough)) (sym n ∙ ap length (sym held)), rw held w);
+        };
+    kept = λ k z. refl;
     tail = refl;
   }
 
   module _ (q : p .copies < c) where
+    fewer-held : (l : List ℕ) → Shows h s l → copies f l < allowed most
+    fewer-held l w = omega (arith, asked, tallied l w)
+
     pub core-full : capacity (h .qbits) ≤ len → InsertsCore h len hash most s (Refused 7) s
     core-full y = record {
-      right = λ l w n. record {
-        enough = λ z. absurd (omega (arith, tallied l w));
-        full = λ z u. (refl, refl);
-        added = λ z u. absurd (omega arith);
-      };
+      right = λ l w n.
+          let due = full-due cap most f l (fewer-held l w) (omega arith) in
+          record { refused = λ _. (ap refuses (sym due), refl); done = λ z. absurd (omega arith) };
+      kept = λ k z. refl;
       tail = refl;
     }
 
@@ -87,7 +119,7 @@ module _ (h : Shape) (low : 6 ≤ h .qbits) (s : List ℕ) (len hash most x rem 
       free l w = first-free m (counts l) (shown-runs h s l w x b .round) x
 
       damaged : ((l : List ℕ) → Shows h s l → ⊥) → InsertsCore h len hash most s (Refused 6) s
-      damaged never = record { right = λ l w n. absurd (never l w); tail = refl }
+      damaged never = record { right = λ l w n. absurd (never l w); kept = λ k z. refl; tail = refl }
 
       pub core-missed : FreeFrom m v x Nothing → InsertsCore h len hash most s (Refused 6) s
       core-missed k = damaged (λ l w. let z : _≡_ {A = ℕ} 0 1 = cc (k .right (counts l) (shown-runs h s l w x b) (w .image .offsets) (free l w)) in omega arith)
@@ -119,10 +151,16 @@ module _ (h : Shape) (low : 6 ≤ h .qbits) (s : List ℕ) (len hash most x rem 
 
           pub core-added : InsertsCore h len hash most s (Added (p .copies)) t
           core-added = record {
-            right = λ l w n. record {
-              enough = λ z. absurd (omega (arith, tallied l w));
-              full = λ z u. absurd (omega arith);
-              added = λ z u. (ap Added (tallied l w), shows l w n);
-            };
+            right = λ l w n.
+                let few = fewer-held l w in
+                let held = more-held cap most f l few in
+                record {
+                  refused = λ z. absurd (omega (arith, room-due cap most f l few (omega arith)));
+                  done = λ _. (
+                    same-tally (tallied l w ∙ sym (more-answer cap most f l few)) (omega (arith, ap length held, more-length f l)),
+                    rw held (shows l w n),
+                  );
+                };
+            kept = λ k z. let y : _≡_ {A = ℕ} 0 1 = cc in absurd (omega arith);
             tail = tail-was (h .rbits) m (blocks (h .qbits)) x (p .slot) (p .«bit_slot») e rem (p .bit) (le s) (le t) (slots-blocks (h .qbits) low) b y;
           }

@@ -1,113 +1,85 @@
 -- Sound stays sound: the buffer that an insert or a remove leaves, with the record that it gives, is a sound filter. Assumes nothing.
-use Prim.Native.Nat.{ℕ, _+_, _-_, _^_, _≤_, _<_, max}
-use mathlib.Core.Path.{_≡_, ap, subst, _∙_}
+use Prim.Native.Nat.{ℕ, _^_, _<_}
+use mathlib.Core.Path.{_≡_, refl, sym, ap, subst, _∙_}
 use mathlib.Core.Logic.{_⊎_, inl, inr}
 use mathlib.Core.List.{List}
 use native.Mathlib.Omega.{arith}
-use native.Mathlib.Decide.{decLe}
 use native.Mathlib.Nat.{eq-zero-or-pos}
 use lib.ListN.{length}
 use lib.Pow.{pow-pos}
+use Rattle.theory.specs.Answer.{gives, number, values}
 use Rattle.theory.specs.Shape.{slots, capacity}
-use Rattle.theory.specs.Holding.{copies, more, fewer}
+use Rattle.theory.specs.Holding.{Holding, fewer}
+use Rattle.theory.specs.Changing.{Rule, insertDue, inserted}
 use Rattle.theory.specs.Image.{image}
-use Rattle.theory.specs.list.More.{more-length}
 use Rattle.theory.specs.layout.Images.{image-length}
-use Rattle.theory.specs.layout.More.{more-holding}
-use Rattle.theory.specs.layout.Removing.{fewer-holding, fewer-length}
+use Rattle.theory.specs.layout.Kept.{inserted-holding, removed-holding}
 use Rattle.theory.specs.layout.Sizes.{fingerprint-lt, capacity-lt}
+use Rattle.theory.specs.check.Promises.{not-refused}
 use Rattle.theory.specs.check.Refusals.{none-due, clear-none}
 use Rattle.layout.specs.declared.numbers.Numbers.{Numbers}
+use Rattle.layout.specs.Records.{withLen, Changed, changed}
 use Rattle.layout.specs.Verdicts.{lowestDue, SoundOf}
 use Rattle.writing.specs.declared.writers.Inserted.the-variants.{Counted}
 use Rattle.writing.specs.declared.writers.Removed.the-variants.{Gone}
 use Rattle.filter.specs.Asking.{fingerprintOf}
-use Rattle.writing.specs.Writing.{Inserts, Insert, Removes, Remove, withLen}
 use Rattle.filter.specs.Listing.{HoldsOf}
+use Rattle.writing.specs.Writing.{Turns, TurnsOn, inserting, removing, Insert, Remove}
 
-module _ (n : Numbers) (s l : List ℕ) (e : lowestDue n s ≡ 0) (h : HoldsOf n s l) where
-  -- none of 1 to 5 is due for another len below slots, if the buffer is an image
-  clear-len : (len : ℕ) → len < slots (n .qbits) → (g t : List ℕ) → t ≡ image (n .qbits) (n .rbits) g → lowestDue (withLen n len) t ≡ 0
-  clear-len len b g t is =
+-- holdings of the widths of a record
+abbrev pub HoldingOf : Numbers → List ℕ → Type 0
+HoldingOf n l = Holding (slots (n .qbits)) (2 ^ n .rbits) l
+
+-- ---- the image of another holding, with its len, is sound
+module _ (n : Numbers) (s : List ℕ) (e : lowestDue n s ≡ 0) (g t : List ℕ) (is : t ≡ image (n .qbits) (n .rbits) g) (h : HoldingOf n g) where
+  pub other-clear : lowestDue (withLen n (length g)) t ≡ 0
+  other-clear =
       let d = none-due (n .qbits) (n .rbits) (n .len) (n .«max_qbits») (length s) e in
-      clear-none (n .qbits) (n .rbits) len (n .«max_qbits») (length t) (record {
+      clear-none (n .qbits) (n .rbits) (length g) (n .«max_qbits») (length t) (record {
         widths = d .widths;
         size-is = ap length is ∙ image-length (n .qbits) (n .rbits) g;
-        fewer = b;
+        fewer = h .fewer;
         max-none = d .max-none;
       })
 
-  module _ (hash : ℕ) where
-    abbrev f : ℕ
-    f = fingerprintOf n hash
+  pub other-holds : HoldsOf (withLen n (length g)) t g
+  other-holds = record { holding = h; many = refl; bytes = is }
 
-    -- one copy more, where there was room
-    module _ (t : List ℕ) (is : t ≡ image (n .qbits) (n .rbits) (more f l)) (room : n .len < capacity (n .qbits)) where
-      few : n .len + 1 < slots (n .qbits)
-      few = omega (arith, capacity-lt (n .qbits) (none-due (n .qbits) (n .rbits) (n .len) (n .«max_qbits») (length s) e .widths .low))
+-- ---- what insert and remove leave is a holding
+module _ (n : Numbers) (s l : List ℕ) (e : lowestDue n s ≡ 0) (h : HoldsOf n s l) (hash : ℕ) where
+  pub insert-holding : (most : ℕ) → insertDue (capacity (n .qbits)) most (fingerprintOf n hash) l ≡ 0 → HoldingOf n (inserted most (fingerprintOf n hash) l)
+  insert-holding most =
+      inserted-holding (slots (n .qbits)) (2 ^ n .rbits) (fingerprintOf n hash) l (h .holding) (capacity (n .qbits)) most
+      (capacity-lt (n .qbits) (none-due (n .qbits) (n .rbits) (n .len) (n .«max_qbits») (length s) e .widths .low)) (fingerprint-lt (n .qbits) (n .rbits) hash)
 
-      pub more-clear : lowestDue (withLen n (n .len + 1)) t ≡ 0
-      more-clear = clear-len (n .len + 1) few (more f l) t is
+  pub remove-holding : HoldingOf n (fewer (fingerprintOf n hash) l)
+  remove-holding = removed-holding (slots (n .qbits)) (2 ^ n .rbits) (fingerprintOf n hash) l (h .holding) (pow-pos (n .rbits))
 
-      pub more-holds : HoldsOf (withLen n (n .len + 1)) t (more f l)
-      more-holds = record {
-        holding = more-holding (slots (n .qbits)) (2 ^ n .rbits) f l (h .holding) (fingerprint-lt (n .qbits) (n .rbits) hash) (omega (arith, few, h .many));
-        many = omega (arith, more-length f l, h .many);
-        bytes = is;
-      }
+-- ---- a change that is not refused
+module _ (n : Numbers) (rule : Rule) (s : List ℕ) (c : Changed) (t : List ℕ) where
+  -- was not due, and turned record and buffer by the rule
+  pub turned : (l : List ℕ) → Turns n rule l s (gives c) t → (rule .due l ≡ 0) × (c ≡ changed (rule .answer l) (withLen n (length (rule .held l)))) × (t ≡ image (n .qbits) (n .rbits) (rule .held l))
+  turned l p = go (eq-zero-or-pos (rule .due l))
+    where
+      go : (rule .due l ≡ 0) ⊎ (0 < rule .due l) → (rule .due l ≡ 0) × (c ≡ changed (rule .answer l) (withLen n (length (rule .held l)))) × (t ≡ image (n .qbits) (n .rbits) (rule .held l))
+      go (inl z) = (z, ap (values c) (p .done z .0), p .done z .1)
+      go (inr z) = absurd (omega (arith, ap number (p .refused z .0)))
 
-    -- one copy fewer, where there was one
-    module _ (t : List ℕ) (is : t ≡ image (n .qbits) (n .rbits) (fewer f l)) (held : 0 < copies f l) where
-      pub fewer-clear : lowestDue (withLen n (n .len - 1)) t ≡ 0
-      fewer-clear = clear-len (n .len - 1) (omega (arith, h .many, h .holding .fewer)) (fewer f l) t is
+  -- of a filter that was sound, and left one that is
+  turn-sound : ((l : List ℕ) → lowestDue n s ≡ 0 → HoldsOf n s l → rule .due l ≡ 0 → HoldingOf n (rule .held l)) → TurnsOn n rule s (gives c) t → SoundOf (c .numbers) t
+  turn-sound keeps p =
+      let y = not-refused _ _ _ _ s _ _ p (λ k z. let x : _≡_ {A = ℕ} 0 1 = cc (z .0) in omega arith) in
+      let l = y .0 .held in
+      let w = turned l (y .1) in
+      let h = keeps l (y .0 .none) (y .0 .holds) (w .0) in
+      subst (λ (x : Changed). SoundOf (x .numbers) t) (sym (w .1)) (record {
+        none = other-clear n s (y .0 .none) (rule .held l) t (w .2) h;
+        held = rule .held l;
+        holds = other-holds n s (y .0 .none) (rule .held l) t (w .2) h;
+      })
 
-      pub fewer-holds : HoldsOf (withLen n (n .len - 1)) t (fewer f l)
-      fewer-holds = record {
-        holding = fewer-holding (slots (n .qbits)) (2 ^ n .rbits) (pow-pos (n .rbits)) f l (h .holding) held;
-        many = omega (arith, fewer-length (slots (n .qbits)) (2 ^ n .rbits) (pow-pos (n .rbits)) f l (h .holding) held, h .many);
-        bytes = is;
-      }
+pub insert-sound : (n : Numbers) (hash most : ℕ) (s : List ℕ) (m : ℕ) (n′ : Numbers) (t : List ℕ) → Insert n hash most s (Counted m n′) t → SoundOf n′ t
+insert-sound n hash most s m n′ t = turn-sound n (inserting n hash most) s (changed m n′) t (λ l e h. insert-holding n s l e h hash most)
 
-pub insert-sound : (n : Numbers) (s : List ℕ) → SoundOf n s → (hash most m : ℕ) (n′ : Numbers) (t : List ℕ) → Insert n hash most s (Counted m n′) t → SoundOf n′ t
-insert-sound n s y hash most m n′ t p = go (decLe (max 1 most) (copies f (y .held))) (decLe (capacity (n .qbits)) (n .len))
-  where
-    f : ℕ
-    f = fingerprintOf n hash
-
-    right : Inserts n f most (y .held) s (Counted m n′) t
-    right = p .sound (y .none) (y .held) (y .holds)
-
-    go : Dec (max 1 most ≤ copies f (y .held)) → Dec (capacity (n .qbits) ≤ n .len) → SoundOf n′ t
-    go (yes c) d =
-        let r = right .enough c in
-        let z : n ≡ n′ = cc (r .0) in
-        subst (λ (x : Numbers). SoundOf x t) z (rw (r .1) y)
-    go (no c) (yes d) = let z : _≡_ {A = ℕ} 0 1 = cc (right .full (omega arith) d .0) in absurd (omega arith)
-    go (no c) (no d) =
-        let r = right .added (omega arith) (omega arith) in
-        let z : withLen n (n .len + 1) ≡ n′ = cc (r .0) in
-        subst (λ (x : Numbers). SoundOf x t) z (record {
-          none = more-clear n s (y .held) (y .none) (y .holds) hash t (r .1) (omega arith);
-          held = more f (y .held);
-          holds = more-holds n s (y .held) (y .none) (y .holds) hash t (r .1) (omega arith);
-        })
-
-pub remove-sound : (n : Numbers) (s : List ℕ) → SoundOf n s → (hash : ℕ) (n′ : Numbers) (t : List ℕ) → Remove n hash s (Gone n′) t → SoundOf n′ t
-remove-sound n s y hash n′ t p = go (eq-zero-or-pos (copies f (y .held)))
-  where
-    f : ℕ
-    f = fingerprintOf n hash
-
-    right : Removes n f (y .held) s (Gone n′) t
-    right = p .sound (y .none) (y .held) (y .holds)
-
-    go : (copies f (y .held) ≡ 0) ⊎ (0 < copies f (y .held)) → SoundOf n′ t
-    go (inl c) = let z : _≡_ {A = ℕ} 0 1 = cc (right .absent c .0) in absurd (omega arith)
-    go (inr c) =
-        let r = right .gone c in
-        let z : withLen n (n .len - 1) ≡ n′ = cc (r .0) in
-        subst (λ (x : Numbers). SoundOf x t) z (record {
-          none = fewer-clear n s (y .held) (y .none) (y .holds) hash t (r .1) c;
-          held = fewer f (y .held);
-          holds = fewer-holds n s (y .held) (y .none) (y .holds) hash t (r .1) c;
-        })
+pub remove-sound : (n : Numbers) (hash : ℕ) (s : List ℕ) (n′ : Numbers) (t : List ℕ) → Remove n hash s (Gone n′) t → SoundOf n′ t
+remove-sound n hash s n′ t = turn-sound n (removing n hash) s (changed 1 n′) t (λ l e h _. remove-holding n s l e h hash)

@@ -3,6 +3,7 @@ pub mod Kept
 pub mod Leaving
 pub mod Pinned
 pub mod Remove
+pub mod Says
 pub mod Shifted
 pub mod Spots
 pub mod Traces

@@ -1,83 +1,70 @@
 -- What the promises of insert and remove pin down: any two outcomes (the answer with its record, and every lent byte) that keep the promise coincide. Checked calls: for all inputs.
 -- Quick calls: where a number 1 to 5 is due or the buffer is sound, and there they equal the checked ones. What is left open is in docs/EXCEPTIONS.md. Assumes nothing.
-use Rattle.writing.specs.declared.writers.Inserted.the-variants as inserted
-use Rattle.writing.specs.declared.writers.Removed.the-variants as removed
-use Prim.Native.Nat.{ℕ, _≤_, _<_, max}
+use Prim.Native.Nat.{ℕ, _<_}
 use mathlib.Core.Path.{_≡_}
 use mathlib.Core.Logic.{_⊎_, inl, inr}
 use mathlib.Core.List.{List}
-use native.Mathlib.Omega.{arith}
-use native.Mathlib.Decide.{decLe}
 use native.Mathlib.Nat.{eq-zero-or-pos}
-use Rattle.theory.specs.Shape.{capacity}
-use Rattle.theory.specs.Holding.{copies}
+use Rattle.theory.specs.Answer.{Answer, refuses}
+use Rattle.theory.specs.Changing.{Rule}
 use Rattle.theory.specs.check.Promises.{checked-one, quick-one, quick-checked}
 use Rattle.layout.specs.declared.numbers.Numbers.{Numbers}
+use Rattle.layout.specs.Records.{Changed}
+use Rattle.filter.specs.Pinned.{Settled, alike, apart}
 use Rattle.writing.specs.declared.writers.Inserted.{Inserted}
 use Rattle.writing.specs.declared.writers.Removed.{Removed}
-use Rattle.filter.specs.Asking.{fingerprintOf}
-use Rattle.writing.specs.Writing.{Inserts, Insert, InsertQuick, Removes, Remove, RemoveQuick, Inside}
-use Rattle.filter.specs.Listing.{HoldsOf}
-use Rattle.filter.specs.Pinned.{Settled, alike, apart}
+use Rattle.writing.specs.Says.{insertedSays, inserted-tells, removedSays, removed-tells}
+use Rattle.writing.specs.Writing.{Turns, TurnsOn, TurnsQuick, Inside, InsertLeaves, inserting, removing, Insert, InsertQuick, Remove, RemoveQuick}
 
--- a refusal is its number alone, with the buffer as it was; what is right for the list held is one outcome
-abbrev pub InsertRefused : List ℕ → ℕ → Inserted × List ℕ → Type 0
-InsertRefused s k x = (x .0 ≡ inserted.Refused k) × (x .1 ≡ s)
+-- ---- a change by a rule: an outcome is the answer, which is told by what it says, and the buffer afterwards
+module _ {E : Type 0} (says : E → Answer Changed) (tells : (a b : E) → says a ≡ says b → a ≡ b) (n : Numbers) (rule : Rule) (s : List ℕ) where
+  abbrev No : ℕ → E × List ℕ → Type 0
+  No k x = (says (x .0) ≡ refuses k) × (x .1 ≡ s)
 
-abbrev pub InsertRight : Numbers → ℕ → ℕ → List ℕ → List ℕ → Inserted × List ℕ → Type 0
-InsertRight n hash most s l x = Inserts n (fingerprintOf n hash) most l s (x .0) (x .1)
+  abbrev Right : List ℕ → E × List ℕ → Type 0
+  Right l x = Turns n rule l s (says (x .0)) (x .1)
 
-abbrev pub RemoveRefused : List ℕ → ℕ → Removed × List ℕ → Type 0
-RemoveRefused s k x = (x .0 ≡ removed.Refused k) × (x .1 ≡ s)
+  no-one : (k : ℕ) (x y : E × List ℕ) → No k x → No k y → x ≡ y
+  no-one k = alike says tells
 
-abbrev pub RemoveRight : Numbers → ℕ → List ℕ → List ℕ → Removed × List ℕ → Type 0
-RemoveRight n hash s l x = Removes n (fingerprintOf n hash) l s (x .0) (x .1)
-
-module _ (n : Numbers) (hash most : ℕ) (s : List ℕ) where
-  pub insert-refused-one : (k : ℕ) (x y : Inserted × List ℕ) → InsertRefused s k x → InsertRefused s k y → x ≡ y
-  insert-refused-one k x y p q = alike x y p q
-
-  pub insert-right-one : (l : List ℕ) → HoldsOf n s l → (x y : Inserted × List ℕ) → InsertRight n hash most s l x → InsertRight n hash most s l y → x ≡ y
-  insert-right-one l _ x y p q = go (decLe (max 1 most) (copies (fingerprintOf n hash) l)) (decLe (capacity (n .qbits)) (n .len))
+  right-one : (l : List ℕ) (x y : E × List ℕ) → Right l x → Right l y → x ≡ y
+  right-one l x y p q = go (eq-zero-or-pos (rule .due l))
     where
-      go : Dec (max 1 most ≤ copies (fingerprintOf n hash) l) → Dec (capacity (n .qbits) ≤ n .len) → x ≡ y
-      go (yes c) d = alike x y (p .enough c) (q .enough c)
-      go (no c) (yes d) = alike x y (p .full (omega arith) d) (q .full (omega arith) d)
-      go (no c) (no d) = alike x y (p .added (omega arith) (omega arith)) (q .added (omega arith) (omega arith))
+      go : (rule .due l ≡ 0) ⊎ (0 < rule .due l) → x ≡ y
+      go (inl z) = alike says tells x y (p .done z) (q .done z)
+      go (inr z) = alike says tells x y (p .refused z) (q .refused z)
 
-  pub insert-fingerprint-counting-pinned : (a b : Inserted) (t u : List ℕ) → Insert n hash most s a t → Insert n hash most s b u → (a ≡ b) × (t ≡ u)
-  insert-fingerprint-counting-pinned a b t u p q =
-      apart (a, t) (b, u) (checked-one (InsertRefused s) (InsertRight n hash most s) _ _ _ _ s insert-refused-one insert-right-one (a, t) (b, u) p q)
+  module _ (a b : E) (t u : List ℕ) where
+    turn-pinned : TurnsOn n rule s (says a) t → TurnsOn n rule s (says b) u → (a ≡ b) × (t ≡ u)
+    turn-pinned p q = apart (a, t) (b, u) (checked-one No Right _ _ _ _ s no-one (λ l _. right-one l) (a, t) (b, u) p q)
 
-  pub insert-fingerprint-counting-quick-pinned : Settled n s → (a b : Inserted) (t u : List ℕ) → InsertQuick n hash most s a t → InsertQuick n hash most s b u → (a ≡ b) × (t ≡ u)
-  insert-fingerprint-counting-quick-pinned d a b t u p q =
-      apart (a, t) (b, u) (quick-one (InsertRefused s) (InsertRight n hash most s) _ _ _ _ s insert-refused-one insert-right-one (λ x. Inside s (x .1)) d (a, t) (b, u) p q)
+    module _ (left : E × List ℕ → Type 0) (d : Settled n s) where
+      quick-turn-pinned : TurnsQuick n rule s (says a) t (left (a, t)) → TurnsQuick n rule s (says b) u (left (b, u)) → (a ≡ b) × (t ≡ u)
+      quick-turn-pinned p q = apart (a, t) (b, u) (quick-one No Right _ _ _ _ s no-one (λ l _. right-one l) left d (a, t) (b, u) p q)
 
-module _ (n : Numbers) (hash : ℕ) (s : List ℕ) where
-  pub remove-refused-one : (k : ℕ) (x y : Removed × List ℕ) → RemoveRefused s k x → RemoveRefused s k y → x ≡ y
-  remove-refused-one k x y p q = alike x y p q
+      turn-quick-checked : TurnsQuick n rule s (says a) t (left (a, t)) → TurnsOn n rule s (says b) u → (a ≡ b) × (t ≡ u)
+      turn-quick-checked p q = apart (a, t) (b, u) (quick-checked No Right _ _ _ _ s no-one (λ l _. right-one l) left d (a, t) (b, u) p q)
 
-  pub remove-right-one : (l : List ℕ) → HoldsOf n s l → (x y : Removed × List ℕ) → RemoveRight n hash s l x → RemoveRight n hash s l y → x ≡ y
-  remove-right-one l _ x y p q = go (eq-zero-or-pos (copies (fingerprintOf n hash) l))
-    where
-      go : (copies (fingerprintOf n hash) l ≡ 0) ⊎ (0 < copies (fingerprintOf n hash) l) → x ≡ y
-      go (inl c) = alike x y (p .absent c) (q .absent c)
-      go (inr c) = alike x y (p .gone c) (q .gone c)
+-- ---- insert
+module _ (n : Numbers) (hash most : ℕ) (s : List ℕ) (a b : Inserted) (t u : List ℕ) where
+  pub insert-fingerprint-counting-pinned : Insert n hash most s a t → Insert n hash most s b u → (a ≡ b) × (t ≡ u)
+  insert-fingerprint-counting-pinned = turn-pinned insertedSays inserted-tells n (inserting n hash most) s a b t u
 
-  pub remove-fingerprint-pinned : (a b : Removed) (t u : List ℕ) → Remove n hash s a t → Remove n hash s b u → (a ≡ b) × (t ≡ u)
-  remove-fingerprint-pinned a b t u p q =
-      apart (a, t) (b, u) (checked-one (RemoveRefused s) (RemoveRight n hash s) _ _ _ _ s remove-refused-one remove-right-one (a, t) (b, u) p q)
+  pub insert-fingerprint-counting-quick-pinned : Settled n s → InsertQuick n hash most s a t → InsertQuick n hash most s b u → (a ≡ b) × (t ≡ u)
+  insert-fingerprint-counting-quick-pinned =
+      quick-turn-pinned insertedSays inserted-tells n (inserting n hash most) s a b t u (λ x. InsertLeaves s (x .0) (x .1))
 
-  pub remove-fingerprint-quick-pinned : Settled n s → (a b : Removed) (t u : List ℕ) → RemoveQuick n hash s a t → RemoveQuick n hash s b u → (a ≡ b) × (t ≡ u)
-  remove-fingerprint-quick-pinned d a b t u p q =
-      apart (a, t) (b, u) (quick-one (RemoveRefused s) (RemoveRight n hash s) _ _ _ _ s remove-refused-one remove-right-one (λ x. Inside s (x .1)) d (a, t) (b, u) p q)
+  -- on every sound buffer, and where a number 1 to 5 is due, quick equals checked
+  pub insert-quick-checked : Settled n s → InsertQuick n hash most s a t → Insert n hash most s b u → (a ≡ b) × (t ≡ u)
+  insert-quick-checked = turn-quick-checked insertedSays inserted-tells n (inserting n hash most) s a b t u (λ x. InsertLeaves s (x .0) (x .1))
 
--- ---- on every sound buffer, and where a number 1 to 5 is due, quick equals checked
-module _ (n : Numbers) (hash : ℕ) (s : List ℕ) (d : Settled n s) where
-  pub insert-quick-checked : (most : ℕ) (a b : Inserted) (t u : List ℕ) → InsertQuick n hash most s a t → Insert n hash most s b u → (a ≡ b) × (t ≡ u)
-  insert-quick-checked most a b t u p q =
-      apart (a, t) (b, u) (quick-checked (InsertRefused s) (InsertRight n hash most s) _ _ _ _ s (insert-refused-one n hash most s) (insert-right-one n hash most s) (λ x. Inside s (x .1)) d (a, t) (b, u) p q)
+-- ---- remove
+module _ (n : Numbers) (hash : ℕ) (s : List ℕ) (a b : Removed) (t u : List ℕ) where
+  pub remove-fingerprint-pinned : Remove n hash s a t → Remove n hash s b u → (a ≡ b) × (t ≡ u)
+  remove-fingerprint-pinned = turn-pinned (removedSays n) (removed-tells n) n (removing n hash) s a b t u
 
-  pub remove-quick-checked : (a b : Removed) (t u : List ℕ) → RemoveQuick n hash s a t → Remove n hash s b u → (a ≡ b) × (t ≡ u)
-  remove-quick-checked a b t u p q =
-      apart (a, t) (b, u) (quick-checked (RemoveRefused s) (RemoveRight n hash s) _ _ _ _ s (remove-refused-one n hash s) (remove-right-one n hash s) (λ x. Inside s (x .1)) d (a, t) (b, u) p q)
+  pub remove-fingerprint-quick-pinned : Settled n s → RemoveQuick n hash s a t → RemoveQuick n hash s b u → (a ≡ b) × (t ≡ u)
+  remove-fingerprint-quick-pinned = quick-turn-pinned (removedSays n) (removed-tells n) n (removing n hash) s a b t u (λ x. Inside s (x .1))
+
+  pub remove-quick-checked : Settled n s → RemoveQuick n hash s a t → Remove n hash s b u → (a ≡ b) × (t ≡ u)
+  remove-quick-checked = turn-quick-checked (removedSays n) (removed-tells n) n (removing n hash) s a b t u (λ x. Inside s (x .1))

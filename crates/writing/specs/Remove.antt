@@ -8,9 +8,12 @@ use native.Mathlib.Nat.{eq-zero-or-pos}
 use lib.ListN.{length}
 use lib.Pow.{pow-pos}
 use Rattle.theory.specs.Shape.{slots, blocks, fingerprint}
+use Rattle.theory.specs.Answer.{Answer, gives, refuses}
 use Rattle.theory.specs.Holding.{copies, fewer, more, run, Holding}
+use Rattle.theory.specs.Changing.{removeAnswer}
 use Rattle.theory.specs.Image.{Views, many, start, carry}
 use Rattle.theory.specs.carry.More.{upto}
+use Rattle.theory.specs.list.Changed.{absent-answer, held-answer, fewer-absent}
 use Rattle.theory.specs.list.Last.{last-held}
 use Rattle.theory.specs.list.More.{place, place-le}
 use Rattle.theory.specs.list.Seek.{copies-run}
@@ -42,14 +45,20 @@ pub record WroteOut (r m B q : ℕ) (p : Place) (e x : ℕ) (a : Removal) (x′ 
   pub took : TookOut r m B q (p .slot) (p .«bit_slot») e (p .bit) x x₁
   pub renewed : Renews r m B (q / 64) (e / 64 - q / 64) (o - upto e (64 * (q / 64) + m)) x₁ a x′
 
--- no change if absent, else one copy fewer
-pub record RemovesAs (h : Shape) (f : ℕ) (l s : List ℕ) (a : Removal) (t : List ℕ) : Type 0 where
-  pub absent : copies f l ≡ 0 → (a ≡ Absent) × (t ≡ s)
-  pub gone : 0 < copies f l → (a ≡ Gone) × Shows h t (fewer f l)
+-- what the core of a remove says: true, 1, or false, 0; or that the buffer is not the image
+abbrev pub removalSays : Removal → Answer ℕ
+removalSays Gone = gives 1
+removalSays Absent = gives 0
+removalSays Damaged = refuses 6
+
+-- the rule of remove
+pub record RemovesAs (h : Shape) (f : ℕ) (l : List ℕ) (a : Removal) (t : List ℕ) : Type 0 where
+  pub says : removalSays a ≡ gives (removeAnswer f l)
+  pub shows : Shows h t (fewer f l)
 
 -- if the buffer shows l; and on any buffer the last eight bytes stay
 pub record RemovesCore (h : Shape) (hash : ℕ) (s : List ℕ) (a : Removal) (t : List ℕ) : Type 0 where
-  pub right : (l : List ℕ) → Shows h s l → RemovesAs h (fingerprint (h .qbits) (h .rbits) hash) l s a t
+  pub right : (l : List ℕ) → Shows h s l → RemovesAs h (fingerprint (h .qbits) (h .rbits) hash) l a t
   pub tail : tailAt (h .rbits) (blocks (h .qbits)) (le t) ≡ tailAt (h .rbits) (blocks (h .qbits)) (le s)
 
 -- how the code comes to it
@@ -72,7 +81,7 @@ module _ (h : Shape) (low : 6 ≤ h .qbits) (s : List ℕ) (hash x rem : ℕ)
 
   pub core-absent : LeavingFor h s x rem NoCopy → RemovesCore h hash s Absent s
   core-absent p = record {
-    right = λ l w. record { absent = λ z. (refl, refl); gone = λ z. absurd (omega (arith, none l w)) };
+    right = λ l w. record { says = ap gives (sym (absent-answer f l (none l w))); shows = rw (fewer-absent f l (none l w)) w };
     tail = refl;
   }
     where
@@ -183,6 +192,6 @@ module _ (h : Shape) (low : 6 ≤ h .qbits) (s : List ℕ) (hash x rem : ℕ)
 
         pub core-gone : RemovesCore h hash s a t
         core-gone = record {
-          right = λ l w. record { absent = λ c. absurd (omega (arith, held l w)); gone = λ c. done l w };
+          right = λ l w. record { says = ap removalSays (done l w .0) ∙ ap gives (sym (held-answer f l (held l w))); shows = done l w .1 };
           tail = y .renewed .apart .tail ∙ taken-tail (h .rbits) m (blocks (h .qbits)) x (p .slot) (p .«bit_slot») e (p .bit) (le s) (y .x₁) (slots-blocks (h .qbits) low) b small (y .took);
         }

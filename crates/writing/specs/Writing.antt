@@ -1,19 +1,27 @@
 -- The promises of insert and remove, document 01.
-use Prim.Native.Nat.{ℕ, _+_, _-_, _^_, _≤_, _<_, max}
+use Prim.Native.Nat.{ℕ, _+_, _-_, _^_, _<_}
 use mathlib.Core.Path.{_≡_, refl, sym, ap, _∙_}
+use mathlib.Core.Logic.{_⊎_, inl, inr}
 use mathlib.Core.List.{List}
 use native.Mathlib.Omega.{arith}
+use native.Mathlib.Nat.{eq-zero-or-pos}
 use lib.ListN.{length}
-use Rattle.theory.specs.Shape.{capacity, blocks, bytes, Widths}
-use Rattle.theory.specs.Holding.{copies, more, fewer}
+use lib.Pow.{pow-pos}
+use Rattle.theory.specs.Answer.{Answer, gives, refuses, number, values}
+use Rattle.theory.specs.Shape.{slots, capacity, blocks, bytes}
+use Rattle.theory.specs.Holding.{copies, fewer}
+use Rattle.theory.specs.Changing.{Rule, insertRule, removeRule, inserted, removeAnswer}
 use Rattle.theory.specs.Image.{image}
 use Rattle.theory.specs.Sound.{Holds, lastEight}
 use Rattle.theory.specs.number.Bytes.{Bytes, le}
 use Rattle.theory.specs.layout.Block.{tailAt}
 use Rattle.theory.specs.layout.Images.{is-image, image-tail}
 use Rattle.theory.specs.layout.Tail.{tail-bytes}
+use Rattle.theory.specs.layout.Removing.{fewer-length}
+use Rattle.theory.specs.list.Changed.{absent-answer, held-answer, fewer-absent}
 use Rattle.theory.specs.check.Refusals.{none-due}
 use Rattle.layout.specs.declared.numbers.Numbers.{Numbers}
+use Rattle.layout.specs.Records.{withLen, Changed, changed}
 use Rattle.writing.specs.declared.insert.Insertion.{Insertion}
 use Rattle.writing.specs.declared.insert.Insertion.the-variants as core
 use Rattle.writing.specs.declared.writers.Inserted.{Inserted}
@@ -26,47 +34,56 @@ use Rattle.filter.specs.Asking.{CheckedOn, QuickOn, fingerprintOf, shapeOf, hol
 use Rattle.layout.specs.Verdicts.{lowestDue}
 use Rattle.layout.specs.Judging.{clear-whole}
 use Rattle.filter.specs.Lookup.{Shows}
-use Rattle.writing.specs.Insert.{InsertsCore}
-use Rattle.writing.specs.Remove.{RemovesCore}
+use Rattle.writing.specs.Says.{insertedSays, removedSays}
+use Rattle.writing.specs.Insert.{Tally, insertionSays, InsertsCore}
+use Rattle.writing.specs.Remove.{removalSays, RemovesCore}
 
--- the record with another len
-abbrev pub withLen : Numbers → ℕ → Numbers
-withLen n len = record { len = len; qbits = n .qbits; rbits = n .rbits; «max_qbits» = n .«max_qbits» }
+-- a change in place by a rule, of a filter that holds l: a number is due, and record and buffer stay; or none is, and answer, len and buffer are the rule's
+pub record Turns (n : Numbers) (rule : Rule) (l s : List ℕ) (a : Answer Changed) (t : List ℕ) : Type 0 where
+  pub refused : 0 < rule .due l → (a ≡ refuses (rule .due l)) × (t ≡ s)
+  pub done : rule .due l ≡ 0 → (a ≡ gives (changed (rule .answer l) (withLen n (length (rule .held l))))) × (t ≡ image (n .qbits) (n .rbits) (rule .held l))
 
--- Let m be the multiplicity and c = max(1, max_count). If m ≥ c: answer c, no change, even at capacity.
--- Else if len ≥ capacity: 7. Else one copy more, answer m.
-pub record Inserts (n : Numbers) (f most : ℕ) (l s : List ℕ) (a : Inserted) (t : List ℕ) : Type 0 where
-  pub enough : max 1 most ≤ copies f l → (a ≡ Counted (max 1 most) n) × (t ≡ s)
-  pub full : copies f l < max 1 most → capacity (n .qbits) ≤ n .len → (a ≡ Refused 7) × (t ≡ s)
-  pub added : copies f l < max 1 most → n .len < capacity (n .qbits) → (a ≡ Counted (copies f l) (withLen n (n .len + 1))) × (t ≡ image (n .qbits) (n .rbits) (more f l))
+-- a checked change: a refusal returns its number alone; the buffer stays the same
+abbrev pub TurnsOn : Numbers → Rule → List ℕ → Answer Changed → List ℕ → Type 0
+TurnsOn n rule s a t = CheckedOn n s (λ k. (a ≡ refuses k) × (t ≡ s)) (λ l. Turns n rule l s a t)
 
--- a refusal returns its number alone; the buffer stays the same
+abbrev pub TurnsQuick : Numbers → Rule → List ℕ → Answer Changed → List ℕ → Type 0 → Type 0
+TurnsQuick n rule s a t left = QuickOn n s (λ k. (a ≡ refuses k) × (t ≡ s)) (λ l. Turns n rule l s a t) left
+
+-- the rules for a record and a hash
+abbrev pub inserting : Numbers → ℕ → ℕ → Rule
+inserting n hash most = insertRule (capacity (n .qbits)) most (fingerprintOf n hash)
+
+abbrev pub removing : Numbers → ℕ → Rule
+removing n hash = removeRule (fingerprintOf n hash)
+
+-- ---- insert
 abbrev pub Insert : Numbers → ℕ → ℕ → List ℕ → Inserted → List ℕ → Type 0
-Insert n hash most s a t = CheckedOn n s (λ k. (a ≡ Refused k) × (t ≡ s)) (λ l. Inserts n (fingerprintOf n hash) most l s a t)
+Insert n hash most s a t = TurnsOn n (inserting n hash most) s (insertedSays a) t
 
 -- on any buffer a quick writer keeps the length and the last eight bytes
 pub record Inside (s t : List ℕ) : Type 0 where
   pub size : length t ≡ length s
   pub tail : lastEight t ≡ lastEight s
 
+-- and a quick insert that is refused has changed nothing
+abbrev pub InsertLeaves : List ℕ → Inserted → List ℕ → Type 0
+InsertLeaves s a t = Inside s t × ((k : ℕ) → insertedSays a ≡ refuses k → t ≡ s)
+
 abbrev pub InsertQuick : Numbers → ℕ → ℕ → List ℕ → Inserted → List ℕ → Type 0
-InsertQuick n hash most s a t = QuickOn n s (λ k. (a ≡ Refused k) × (t ≡ s)) (λ l. Inserts n (fingerprintOf n hash) most l s a t) (Inside s t)
+InsertQuick n hash most s a t = TurnsQuick n (inserting n hash most) s (insertedSays a) t (InsertLeaves s a t)
 
--- No change if absent, else one copy fewer.
-pub record Removes (n : Numbers) (f : ℕ) (l s : List ℕ) (a : Removed) (t : List ℕ) : Type 0 where
-  pub absent : copies f l ≡ 0 → (a ≡ removed.Absent) × (t ≡ s)
-  pub gone : 0 < copies f l → (a ≡ removed.Gone (withLen n (n .len - 1))) × (t ≡ image (n .qbits) (n .rbits) (fewer f l))
-
+-- ---- remove
 abbrev pub Remove : Numbers → ℕ → List ℕ → Removed → List ℕ → Type 0
-Remove n hash s a t = CheckedOn n s (λ k. (a ≡ removed.Refused k) × (t ≡ s)) (λ l. Removes n (fingerprintOf n hash) l s a t)
+Remove n hash s a t = TurnsOn n (removing n hash) s (removedSays n a) t
 
 abbrev pub RemoveQuick : Numbers → ℕ → List ℕ → Removed → List ℕ → Type 0
-RemoveQuick n hash s a t = QuickOn n s (λ k. (a ≡ removed.Refused k) × (t ≡ s)) (λ l. Removes n (fingerprintOf n hash) l s a t) (Inside s t)
+RemoveQuick n hash s a t = TurnsQuick n (removing n hash) s (removedSays n a) t (Inside s t)
 
 -- ---- how the code comes to it
 pub record InsertWorked (n : Numbers) (hash most : ℕ) (s : List ℕ) (a : Inserted) (t : List ℕ) : Type 0 where
-  pub right : (l : List ℕ) → Holds (n .qbits) (n .rbits) (n .len) s l → Inserts n (fingerprintOf n hash) most l s a t
-  pub inside : Inside s t
+  pub right : (l : List ℕ) → Holds (n .qbits) (n .rbits) (n .len) s l → Turns n (inserting n hash most) l s (insertedSays a) t
+  pub inside : InsertLeaves s a t
 
 pub inside-same : (s : List ℕ) → Inside s s
 inside-same s = record { size = refl; tail = refl }
@@ -91,21 +108,35 @@ insertedFrom n (core.Enough c) = Counted c n
 insertedFrom n (core.Added m) = Counted m (withLen n (n .len + 1))
 insertedFrom n (core.Refused k) = Refused k
 
+-- what it says, by what the core says
+abbrev recorded : Numbers → Answer Tally → Answer Changed
+recorded n (gives c) = gives (changed (c .answer) (withLen n (c .len)))
+recorded n (refuses k) = refuses k
+
+inserted-says : (n : Numbers) (a : Insertion) → insertedSays (insertedFrom n a) ≡ recorded n (insertionSays (n .len) a)
+inserted-says n (core.Enough c) = refl
+inserted-says n (core.Added m) = refl
+inserted-says n (core.Refused k) = refl
+
+refused-core : (n : Numbers) (a : Insertion) (k : ℕ) → insertedSays (insertedFrom n a) ≡ refuses k → a ≡ core.Refused k
+refused-core n (core.Enough c) k e = let z : _≡_ {A = ℕ} 0 1 = cc in absurd (omega arith)
+refused-core n (core.Added m) k e = let z : _≡_ {A = ℕ} 0 1 = cc in absurd (omega arith)
+refused-core n (core.Refused j) k e = ap core.Refused (ap number e)
+
 pub insert-worked : (n : Numbers) (hash most : ℕ) (s t : List ℕ) (a : Insertion) → lowestDue n s ≡ 0 → Bytes s → Bytes t → length t ≡ length s
     → InsertsCore (shapeOf n) (n .len) hash most s a t → InsertWorked n hash most s (insertedFrom n a) t
 insert-worked n hash most s t a e bs bt len c = record {
   right = λ l h.
       let w = c .right l (holds-shows n s l (clear-whole n s e .widths) h) (h .many) in
       record {
-        enough = λ z. (ap (insertedFrom n) (w .enough z .0), w .enough z .1);
-        full = λ z y. (ap (insertedFrom n) (w .full z y .0), w .full z y .1);
-        added = λ z y. (ap (insertedFrom n) (w .added z y .0), shows-image n s t e bs bt len (c .tail) l (more (fingerprintOf n hash) l) h (w .added z y .1));
+        refused = λ z. (inserted-says n a ∙ ap (recorded n) (w .refused z .0), w .refused z .1);
+        done = λ z. (inserted-says n a ∙ ap (recorded n) (w .done z .0), shows-image n s t e bs bt len (c .tail) l (inserted most (fingerprintOf n hash) l) h (w .done z .1));
       };
-  inside = stays-inside n s t e bs bt len (c .tail);
+  inside = (stays-inside n s t e bs bt len (c .tail), λ k z. c .kept k (refused-core n a k z));
 }
 
 pub record RemoveWorked (n : Numbers) (hash : ℕ) (s : List ℕ) (a : Removed) (t : List ℕ) : Type 0 where
-  pub right : (l : List ℕ) → Holds (n .qbits) (n .rbits) (n .len) s l → Removes n (fingerprintOf n hash) l s a t
+  pub right : (l : List ℕ) → Holds (n .qbits) (n .rbits) (n .len) s l → Turns n (removing n hash) l s (removedSays n a) t
   pub inside : Inside s t
 
 abbrev pub removedFrom : Numbers → Removal → Removed
@@ -113,14 +144,38 @@ removedFrom n removal.Gone = removed.Gone (withLen n (n .len - 1))
 removedFrom n removal.Absent = removed.Absent
 removedFrom n removal.Damaged = removed.Refused 6
 
+-- what it says, by what the core says
+removed-absent : (n : Numbers) (a : Removal) → removalSays a ≡ gives 0 → removedSays n (removedFrom n a) ≡ gives (changed 0 n)
+removed-absent n removal.Gone e = absurd (omega (arith, ap (values 2) e))
+removed-absent n removal.Absent e = refl
+removed-absent n removal.Damaged e = absurd (omega (arith, ap (values 2) e))
+
+removed-gone : (n : Numbers) (a : Removal) → removalSays a ≡ gives 1 → removedSays n (removedFrom n a) ≡ gives (changed 1 (withLen n (n .len - 1)))
+removed-gone n removal.Gone e = refl
+removed-gone n removal.Absent e = absurd (omega (arith, ap (values 2) e))
+removed-gone n removal.Damaged e = absurd (omega (arith, ap (values 2) e))
+
+removed-says : (n : Numbers) (s l : List ℕ) → Holds (n .qbits) (n .rbits) (n .len) s l → (f : ℕ) (a : Removal) → removalSays a ≡ gives (removeAnswer f l)
+    → removedSays n (removedFrom n a) ≡ gives (changed (removeAnswer f l) (withLen n (length (fewer f l))))
+removed-says n s l h f a e = go (eq-zero-or-pos (copies f l))
+  where
+    told : {m len : ℕ} → removeAnswer f l ≡ m → length (fewer f l) ≡ len → gives (changed m (withLen n len)) ≡ gives (changed (removeAnswer f l) (withLen n (length (fewer f l))))
+    told x y = λ i. gives (changed (sym x i) (withLen n (sym y i)))
+
+    go : (copies f l ≡ 0) ⊎ (0 < copies f l) → removedSays n (removedFrom n a) ≡ gives (changed (removeAnswer f l) (withLen n (length (fewer f l))))
+    go (inl c) = removed-absent n a (e ∙ ap gives (absent-answer f l c)) ∙ told (absent-answer f l c) (ap length (fewer-absent f l c) ∙ h .many)
+    go (inr c) =
+        removed-gone n a (e ∙ ap gives (held-answer f l c))
+        ∙ told (held-answer f l c) (omega (arith, fewer-length (slots (n .qbits)) (2 ^ n .rbits) (pow-pos (n .rbits)) f l (h .holding) c, h .many))
+
 pub remove-worked : (n : Numbers) (hash : ℕ) (s t : List ℕ) (a : Removal) → lowestDue n s ≡ 0 → Bytes s → Bytes t → length t ≡ length s
     → RemovesCore (shapeOf n) hash s a t → RemoveWorked n hash s (removedFrom n a) t
 remove-worked n hash s t a e bs bt len c = record {
   right = λ l h.
       let w = c .right l (holds-shows n s l (clear-whole n s e .widths) h) in
       record {
-        absent = λ z. (ap (removedFrom n) (w .absent z .0), w .absent z .1);
-        gone = λ z. (ap (removedFrom n) (w .gone z .0), shows-image n s t e bs bt len (c .tail) l (fewer (fingerprintOf n hash) l) h (w .gone z .1));
+        refused = λ z. absurd (omega arith);
+        done = λ z. (removed-says n s l h (fingerprintOf n hash) a (w .says), shows-image n s t e bs bt len (c .tail) l (fewer (fingerprintOf n hash) l) h (w .shows));
       };
   inside = stays-inside n s t e bs bt len (c .tail);
 }

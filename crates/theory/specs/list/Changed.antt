@@ -8,7 +8,7 @@ use native.Mathlib.Decide.{decLe, ℕ-discrete}
 use lib.ListN.{length}
 use Rattle.theory.specs.tools.Choose.{choose, choose-by, choose-yes, choose-no}
 use Rattle.theory.specs.Holding.{copies, more, fewer}
-use Rattle.theory.specs.Changing.{allowed, upTo, insertDue, insertAnswer, inserted}
+use Rattle.theory.specs.Changing.{allowed, upTo, insertDue, insertAnswer, inserted, removeAnswer}
 use Rattle.theory.specs.list.Copies.{copies-eq, copies-other}
 
 -- ---- one copy more, unless c are held
@@ -79,6 +79,14 @@ module _ (capacity most f : ℕ) (l : List ℕ) where
       go (no h) (no b) = absurd (omega (arith, room-due (omega arith) (omega arith)))
 
 -- ---- remove
+pub absent-answer : (f : ℕ) (l : List ℕ) → copies f l ≡ 0 → removeAnswer f l ≡ 0
+unfolding removeAnswer
+absent-answer f l e = omega arith
+
+pub held-answer : (f : ℕ) (l : List ℕ) → 0 < copies f l → removeAnswer f l ≡ 1
+unfolding removeAnswer
+held-answer f l h = omega arith
+
 -- nothing goes where it is not held
 pub fewer-absent : (f : ℕ) (l : List ℕ) → copies f l ≡ 0 → fewer f l ≡ l
 unfolding fewer

@@ -6,7 +6,8 @@ use denote.Ref.{now}
 use Rattle.layout.specs.Judging.{clear-whole}
 use Rattle.writing.specs.declared.remove.Removal.{Removal}
 use Rattle.writing.specs.declared.writers.Removed.the-variants.{Gone}
-use Rattle.writing.specs.Writing.{RemoveWorked, withLen, removedFrom, remove-worked}
+use Rattle.layout.specs.Records.{withLen}
+use Rattle.writing.specs.Writing.{RemoveWorked, removedFrom, remove-worked}
 use borrow.Author.Needs.{needs}
 use Rattle.writing.proofs.writers.remove_worked.Statement.{statement}
 use Rattle.writing.proofs.writers.remove_worked.Tie as tie
