@@ -3,9 +3,10 @@ use Prim.Native.Nat.{ℕ, suc, _+_, _-_, _^_, _≤_, _<_}
 use mathlib.Core.Path.{_≡_, refl, sym, ap, subst, _∙_}
 use mathlib.Core.List.{List, []}
 use native.Mathlib.Omega.{arith}
-use native.Mathlib.Decide.{decLt, ℕ-discrete}
+use native.Mathlib.Decide.{decLt}
 use lib.ListN.{length}
 use Rattle.theory.specs.tools.Choose.{choose-yes, choose-no}
+use Rattle.theory.specs.Answer.{Answer, refuses}
 use Rattle.theory.specs.Shape.{Widths, capacity, blocks}
 use Rattle.theory.specs.Image.{image}
 use Rattle.theory.specs.Planning.{widthFrom}
@@ -13,18 +14,17 @@ use Rattle.theory.specs.Refusal.{maxDue, destinationDue, orElse}
 use Rattle.theory.specs.Joining.{joined, wanted, limit, joinedQbits, joinedDue}
 use Rattle.theory.specs.number.Bytes.{Bytes, le}
 use Rattle.theory.specs.layout.Block.{tailAt}
-use Rattle.theory.specs.check.Refusals.{none-due, max-absent, max-good, else-none, else-some}
+use Rattle.theory.specs.check.Refusals.{else-none, else-some}
 use Rattle.layout.specs.declared.numbers.Numbers.{Numbers}
 use Rattle.layout.specs.declared.shape.Shape.{Shape}
 use Rattle.layout.specs.Verdicts.{lowestDue}
 use Rattle.filter.specs.Asking.{shapeOf}
 use Rattle.filter.specs.Lookup.{Shows}
-use Rattle.growth.specs.declared.rebuild.Rebuilt.{Rebuilt}
 use Rattle.growth.specs.declared.rebuild.Rebuilt.the-variants.{Filter, Refused}
 use Rattle.growth.specs.Take.{SameTail}
-use Rattle.growth.specs.Rebuilding.{Lands, Empties, max-fits, lands-image, shows-empty, held-under, lands-refused, lands-built}
+use Rattle.growth.specs.Rebuilding.{Lands, Empties, lands-image, shows-empty, held-under, lands-refused, lands-built}
 use Rattle.growth.specs.Merging.{HeldBy, Joins, MergesEqual, Wants, qbitsFor, widthOf}
-use Rattle.growth.specs.Limits.{few, limit-fits, limit-some, width-found}
+use Rattle.growth.specs.Limits.{few, limit-widths, width-found}
 use Rattle.growth.specs.Both.{Under-width, joins-both, joins-own, own-wanted, ownOf, shows-other, shows-self}
 
 module _ (n : Numbers) (s : List ℕ) (m : Numbers) (o : List ℕ) (e : lowestDue n s ≡ 0) (f : lowestDue m o ≡ 0) (same : widthOf m ≡ widthOf n) (keep W : ℕ) (wn : Wants n s m o keep W)
@@ -38,7 +38,7 @@ module _ (n : Numbers) (s : List ℕ) (m : Numbers) (o : List ℕ) (e : lowestDu
   rest = widthOf n - q
 
   -- the promise, at the width found
-  abbrev At : List ℕ → List ℕ → Rebuilt → List ℕ → ℕ → Type 0
+  abbrev At : List ℕ → List ℕ → Answer Numbers → List ℕ → ℕ → Type 0
   At la lb a t z =
       Lands (orElse (joinedDue (n .qbits) (n .«max_qbits») (wanted keep la lb)) (destinationDue z (widthOf n - z) (length d))) z (widthOf n - z) (n .«max_qbits») (joined keep la lb) d a t
 
@@ -56,27 +56,12 @@ module _ (n : Numbers) (s : List ℕ) (m : Numbers) (o : List ℕ) (e : lowestDu
     not-seven la lb x y = choose-no (decLt (limit (n .qbits) (n .«max_qbits»)) (qbitsFor n keep la lb)) 7 0 (λ z. omega (arith, el, is-q la lb x y))
 
     pub equal-fits : (Widths q rest) × (maxDue q rest (n .«max_qbits») ≡ 0) × (q ≤ n .qbits + n .rbits)
-    equal-fits =
-        let c = none-due (n .qbits) (n .rbits) (n .len) (n .«max_qbits») (length s) e in
-        let g = limit-fits n s e in
-        let w = c .widths in (
-          record { low = omega (arith, w .low); high = omega (arith, el, g .1); some = omega (arith, el, g .2); sum = omega (arith, w .sum, el, g .2) },
-          by-zero (ℕ-discrete (n .«max_qbits») 0),
-          omega (arith, el, g .2),
-        )
-      where
-        by-zero : Dec (n .«max_qbits» ≡ 0) → maxDue q rest (n .«max_qbits») ≡ 0
-        by-zero (yes z) = max-absent q rest (n .«max_qbits») z
-        by-zero (no z) =
-            let c = none-due (n .qbits) (n .rbits) (n .len) (n .«max_qbits») (length s) e in
-            let g = max-fits (n .qbits) (n .rbits) (n .«max_qbits») (c .max-none) z in
-            let i : last ≡ n .«max_qbits» = el ∙ limit-some (n .qbits) (n .«max_qbits») z in
-            max-good q rest (n .«max_qbits») (omega arith) (g .1) (omega (arith, g .2, c .widths .some))
+    equal-fits = limit-widths n s e q low (omega arith)
 
     pub equal-twelve : (k : ℕ) (t : List ℕ) → Empties q rest d k t → 0 < k → MergesEqual n s m o keep d (Refused k) t
     equal-twelve k t g h la lb x y =
-        subst (At la lb (Refused k) t) (is-q la lb x y)
-        (subst (λ (z : List ℕ). At la lb (Refused k) z q) (sym (g .kept h))
+        subst (At la lb (refuses k) t) (is-q la lb x y)
+        (subst (λ (z : List ℕ). At la lb (refuses k) z q) (sym (g .kept h))
         (lands-refused _ q rest (n .«max_qbits») (joined keep la lb) d k (else-none (joinedDue (n .qbits) (n .«max_qbits») (wanted keep la lb)) _ (not-seven la lb x y) ∙ sym (g .is)) h))
 
     abbrev shape : Shape

@@ -1,26 +1,34 @@
--- Growth keeps every answer about holding and count, and sound stays sound: a grown filter, and the one that an insert with a spare leaves. Assumes nothing.
-use Prim.Native.Nat.{ℕ, _+_, _-_, _≤_, _<_, max}
+-- Growth keeps every answer about holding and count, and sound stays sound: a grown filter, and the one that an insert with a spare leaves; and such an insert in the old buffer
+-- is undone by a remove. Assumes nothing.
+use Prim.Native.Nat.{ℕ, suc, _+_, _-_, _<_}
 use mathlib.Core.Path.{_≡_, refl, sym, ap, subst, _∙_}
 use mathlib.Core.Logic.{_⊎_, inl, inr}
 use mathlib.Core.List.{List}
 use native.Mathlib.Omega.{arith}
-use native.Mathlib.Decide.{decLe}
 use native.Mathlib.Nat.{eq-zero-or-pos}
 use lib.ListN.{length}
+use Rattle.theory.specs.Answer.{gives, number, values}
 use Rattle.theory.specs.Shape.{capacity}
-use Rattle.theory.specs.Holding.{copies, more}
+use Rattle.theory.specs.Changing.{insertDue, inserted}
 use Rattle.theory.specs.Image.{image}
+use Rattle.theory.specs.list.Changed.{room-due}
 use Rattle.layout.specs.declared.numbers.Numbers.{Numbers}
+use Rattle.layout.specs.Records.{Changed, changed}
 use Rattle.layout.specs.Verdicts.{lowestDue, SoundOf}
 use Rattle.filter.specs.declared.contains.Lookup.{Lookup}
 use Rattle.filter.specs.declared.contains.Counting.{Counting}
 use Rattle.filter.specs.Asking.{Contains, Count, fingerprintOf}
 use Rattle.filter.specs.Listing.{HoldsOf}
 use Rattle.filter.specs.Answers.{saysHeld, contains-alike, count-alike}
-use Rattle.writing.specs.Kept.{more-clear, more-holds}
+use Rattle.writing.specs.declared.writers.Removed.{Removed}
+use Rattle.writing.specs.declared.writers.Removed.the-variants.{Gone}
+use Rattle.writing.specs.Writing.{Turns, inserting, Remove}
+use Rattle.writing.specs.Kept.{HoldingOf, other-clear, other-holds, insert-holding}
+use Rattle.writing.specs.Traces.{grown, put-back}
 use Rattle.growth.specs.declared.rebuild.Rebuilt.the-variants.{Filter}
 use Rattle.growth.specs.declared.spare.Placed.{Placed}
 use Rattle.growth.specs.declared.spare.Placed.the-variants.{InOld, InSpare, Refused}
+use Rattle.growth.specs.Says.{PlacedIn, placedIn, placedSays, placed-tells}
 use Rattle.growth.specs.Rebuilding.{Grows, growDue}
 use Rattle.growth.specs.Growing.{grownTo, grows-room, grown-width, grown-fingerprint, grown-clear, grown-holds, grown-room}
 use Rattle.growth.specs.Spare.{Places, InsertSpare, InsertSpareQuick}
@@ -75,44 +83,71 @@ module _ (n : Numbers) (s d : List ℕ) (y : SoundOf n s) (hash most : ℕ) (a :
   f = fingerprintOf n hash
 
   -- from what is right for the list held
-  placed-sound : Places n f most (y .held) s d a t e → SoundIn n a t e
-  placed-sound p = go (decLe (max 1 most) (copies f (y .held))) (decLe (capacity (n .qbits)) (n .len)) (eq-zero-or-pos (growDue n (length d)))
+  placed-sound : Places n (inserting n hash most) (y .held) s d (placedSays a) t e → SoundIn n a t e
+  placed-sound p = go (eq-zero-or-pos (insertDue (capacity (n .qbits)) most f (y .held))) (eq-zero-or-pos (growDue n (length d)))
     where
+      l : List ℕ
+      l = y .held
+
       same : t ≡ s → SoundOf n t
       same x = subst (SoundOf n) (sym x) y
 
-      named : {b : Placed} → a ≡ b → SoundIn n b t e → SoundIn n a t e
-      named x w = subst (λ (z : Placed). SoundIn n z t e) (sym x) w
+      named : (b : Placed) → placedSays a ≡ placedSays b → SoundIn n b t e → SoundIn n a t e
+      named b x w = subst (λ (z : Placed). SoundIn n z t e) (sym (placed-tells a b x)) w
 
-      go : Dec (max 1 most ≤ copies f (y .held)) → Dec (capacity (n .qbits) ≤ n .len) → (growDue n (length d) ≡ 0) ⊎ (0 < growDue n (length d)) → SoundIn n a t e
-      go (yes c) b z =
-          let r = p .enough c in
-          named (r .0) (same (r .1))
-      go (no c) (no b) z =
-          let r = p .added (omega arith) (omega arith) in
-          named (r .0) (record {
-            none = more-clear n s (y .held) (y .none) (y .holds) hash t (r .1) (omega arith);
-            held = more f (y .held);
-            holds = more-holds n s (y .held) (y .none) (y .holds) hash t (r .1) (omega arith);
+      go : (insertDue (capacity (n .qbits)) most f (y .held) ≡ 0) ⊎ (0 < insertDue (capacity (n .qbits)) most f (y .held)) → (growDue n (length d) ≡ 0) ⊎ (0 < growDue n (length d)) → SoundIn n a t e
+      go (inl b) z =
+          let r = p .old b in
+          let h = insert-holding n s l (y .none) (y .holds) hash most b in
+          named (InOld _ _) (r .0) (record {
+            none = other-clear n s (y .none) (inserted most f l) t (r .1) h;
+            held = inserted most f l;
+            holds = other-holds n s (y .none) (inserted most f l) t (r .1) h;
           })
-      go (no c) (yes b) (inr z) =
-          let r = p .full (omega arith) b in
-          named (r .1 .refused z .0) (same (r .0))
-      go (no c) (yes b) (inl z) =
-          let r = p .full (omega arith) b .1 .moved z in
+      go (inr b) (inr z) =
+          let r = p .full b in
+          named (Refused _) (r .1 .refused z .0) (same (r .0))
+      go (inr b) (inl z) =
+          let r = p .full b .1 .moved z in
           let above = grows-room n (length d) z in
-          let g = grownTo n (length (y .held)) in
-          let clear = grown-clear n s (y .held) (y .none) (y .holds) above in
-          let holds = grown-holds n s (y .held) (y .none) (y .holds) above in
-          let is : e ≡ image (n .qbits + 1) (n .rbits - 1) (more (fingerprintOf g hash) (y .held)) = r .1 ∙ rw (grown-fingerprint n s (y .held) (y .none) (y .holds) above (length (y .held)) hash) in
-          named (r .0) (rw (← y .holds .many) (record {
-            none = more-clear g _ (y .held) clear holds hash e is (grown-room n s (y .held) (y .none) (y .holds) above);
-            held = more (fingerprintOf g hash) (y .held);
-            holds = more-holds g _ (y .held) clear holds hash e is (grown-room n s (y .held) (y .none) (y .holds) above);
-          }))
+          let g = grownTo n (length l) in
+          let grown = image (n .qbits + 1) (n .rbits - 1) l in
+          let clear = grown-clear n s l (y .none) (y .holds) above in
+          let fingerprint = grown-fingerprint n s l (y .none) (y .holds) above (length l) hash in
+          let room = room-due (capacity (n .qbits + 1)) most (fingerprintOf g hash) l (grown-room n s l (y .none) (y .holds) above) in
+          let h : HoldingOf g (inserted most f l) = rw fingerprint at (insert-holding g grown l clear (grown-holds n s l (y .none) (y .holds) above) hash most room) in
+          named (InSpare _ _) (r .0) (record {
+            none = other-clear g grown clear (inserted most f l) e (r .1) h;
+            held = inserted most f l;
+            holds = other-holds g grown clear (inserted most f l) e (r .1) h;
+          })
 
   pub insert-spare-sound : InsertSpare n hash most s d a t e → SoundIn n a t e
   insert-spare-sound p = placed-sound (p .sound (y .none) (y .held) (y .holds))
 
   pub insert-spare-quick-sound : InsertSpareQuick n hash most s d a t e → SoundIn n a t e
   insert-spare-quick-sound p = placed-sound (p .sound (y .none) (y .held) (y .holds))
+
+-- ---- inserting with a spare, in the old buffer, and then removing one copy puts every byte and the record back
+pub spare-remove : (n : Numbers) (s d : List ℕ) → SoundOf n s → (hash most m : ℕ) (n′ : Numbers) (t e : List ℕ) → InsertSpare n hash most s d (InOld m n′) t e → n′ .len ≡ suc (n .len)
+    → (a : Removed) (u : List ℕ) → Remove n′ hash t a u → (a ≡ Gone n) × (u ≡ s)
+spare-remove n s d y hash most m n′ t e p longer = put-back n s l (y .none) (y .holds) hash n′ t (grown n s l (y .none) (y .holds) hash most m n′ t turned longer)
+  where
+    l : List ℕ
+    l = y .held
+
+    right : Places n (inserting n hash most) l s d (gives (placedIn m 0 n′)) t e
+    right = p .sound (y .none) l (y .holds)
+
+    changes : PlacedIn → Changed
+    changes z = changed (z .answer) (z .numbers)
+
+    turned : Turns n (inserting n hash most) l s (gives (changed m n′)) t
+    turned = record {
+      refused = λ b. absurd (never b (eq-zero-or-pos (growDue n (length d))));
+      done = λ b. (ap (λ z. gives (changes (values (placedIn m 0 n′) z))) (right .old b .0), right .old b .1);
+    }
+      where
+        never : 0 < inserting n hash most .due l → (growDue n (length d) ≡ 0) ⊎ (0 < growDue n (length d)) → ⊥
+        never b (inl z) = omega (arith, ap (λ x. values (placedIn m 0 n′) x .in-spare) (right .full b .1 .moved z .0))
+        never b (inr z) = omega (arith, ap number (right .full b .1 .refused z .0))

@@ -11,6 +11,7 @@ pub mod Merged
 pub mod Merging
 pub mod Pinned
 pub mod Rebuilding
+pub mod Says
 pub mod Spare
 pub mod Take
 pub mod Union

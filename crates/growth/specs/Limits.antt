@@ -4,15 +4,16 @@ use mathlib.Core.Path.{_≡_, ap, _∙_}
 use mathlib.Core.Logic.{_≢_}
 use mathlib.Core.List.{List}
 use native.Mathlib.Omega.{arith}
-use native.Mathlib.Decide.{decLe, ℕ-discrete}
+use native.Mathlib.Decide.{decLe, decLt, ℕ-discrete}
 use lib.ListN.{length}
 use Rattle.theory.specs.tools.Choose.{choose-by, choose-yes, choose-no}
-use Rattle.theory.specs.Shape.{capacity}
+use Rattle.theory.specs.Shape.{capacity, Widths}
+use Rattle.theory.specs.Refusal.{maxDue}
 use Rattle.theory.specs.Planning.{widthFrom}
-use Rattle.theory.specs.Joining.{limit}
+use Rattle.theory.specs.Joining.{limit, joinedQbits, joinedDue}
 use Rattle.theory.specs.layout.Sizes.{slots-high}
 use Rattle.theory.specs.plan.Needed.{width-next}
-use Rattle.theory.specs.check.Refusals.{none-due}
+use Rattle.theory.specs.check.Refusals.{none-due, max-absent, max-good}
 use Rattle.layout.specs.declared.numbers.Numbers.{Numbers}
 use Rattle.layout.specs.Verdicts.{lowestDue}
 use Rattle.growth.specs.Rebuilding.{max-fits}
@@ -60,3 +61,34 @@ pub few : (n : Numbers) (s : List ℕ) → lowestDue n s ≡ 0 → n .len < 2 ^ 
 few n s e =
     let c = none-due (n .qbits) (n .rbits) (n .len) (n .«max_qbits») (length s) e in
     omega (arith, c .fewer, slots-high (n .qbits) (c .widths .high))
+
+-- a width from self's up to the limit is allowed, with what is left of self's sum
+pub limit-widths : (n : Numbers) (s : List ℕ) → lowestDue n s ≡ 0 → (q : ℕ) → n .qbits ≤ q → q ≤ limit (n .qbits) (n .«max_qbits»)
+    → (Widths q (n .qbits + n .rbits - q)) × (maxDue q (n .qbits + n .rbits - q) (n .«max_qbits») ≡ 0) × (q ≤ n .qbits + n .rbits)
+limit-widths n s e q low high =
+    let c = none-due (n .qbits) (n .rbits) (n .len) (n .«max_qbits») (length s) e in
+    let g = limit-fits n s e in
+    let w = c .widths in (
+      record { low = omega (arith, w .low); high = omega (arith, g .1); some = omega (arith, g .2); sum = omega (arith, w .sum, g .2) },
+      by-zero (ℕ-discrete (n .«max_qbits») 0),
+      omega (arith, g .2),
+    )
+  where
+    by-zero : Dec (n .«max_qbits» ≡ 0) → maxDue q (n .qbits + n .rbits - q) (n .«max_qbits») ≡ 0
+    by-zero (yes z) = max-absent q (n .qbits + n .rbits - q) (n .«max_qbits») z
+    by-zero (no z) =
+        let c = none-due (n .qbits) (n .rbits) (n .len) (n .«max_qbits») (length s) e in
+        let g = max-fits (n .qbits) (n .rbits) (n .«max_qbits») (c .max-none) z in
+        let i = limit-some (n .qbits) (n .«max_qbits») z in
+        max-good q (n .qbits + n .rbits - q) (n .«max_qbits») (omega arith) (g .1) (omega (arith, g .2, c .widths .some))
+
+-- where 7 is not due, the width found keeps to the limit
+pub joined-within : (q mx c : ℕ) → joinedDue q mx c ≡ 0 → joinedQbits q mx c ≤ limit q mx
+unfolding joinedDue
+joined-within q mx c e = go (decLt (limit q mx) (joinedQbits q mx c))
+  where
+    go : Dec (limit q mx < joinedQbits q mx c) → joinedQbits q mx c ≤ limit q mx
+    go (yes h) =
+        let seven : joinedDue q mx c ≡ 7 = choose-yes (decLt (limit q mx) (joinedQbits q mx c)) 7 0 h in
+        absurd (omega arith)
+    go (no h) = omega arith

@@ -1,39 +1,53 @@
--- What follows of the promise of merge: it leaves no choice, and what the result holds, fingerprint by fingerprint. Assumes nothing.
-use Prim.Native.Nat.{ℕ, zero, suc, _+_, _<_, min, max}
-use mathlib.Core.Path.{_≡_, sym, ap, _∙_}
+-- What follows of the promise of merge: it leaves no choice, its result is sound, and what that holds, fingerprint by fingerprint. Assumes nothing.
+use Prim.Native.Nat.{ℕ, zero, suc, _+_, _-_, _*_, _^_, _≤_, _<_, min, max}
+use mathlib.Core.Path.{_≡_, refl, sym, ap, subst, _∙_}
+use mathlib.Core.Logic.{_⊎_, inl, inr}
 use mathlib.Core.List.{List, map}
 use native.Mathlib.Omega.{arith}
 use native.Mathlib.Decide.{decLt}
 use native.Mathlib.Nat.{eq-zero-or-pos}
-use mathlib.Core.Logic.{_⊎_, inl, inr}
-use Rattle.theory.specs.Shape.{fingerprint}
-use Rattle.theory.specs.Holding.{copies}
+use lib.ListN.{length}
+use lib.Pow.{pow-add}
+use Rattle.theory.specs.Answer.{gives, refuses, number, values}
+use Rattle.theory.specs.Shape.{Widths, slots, capacity, fingerprint}
+use Rattle.theory.specs.Holding.{Holding, Under, copies}
 use Rattle.theory.specs.Image.{image}
-use Rattle.theory.specs.Joining.{joined, taken}
-use Rattle.theory.specs.check.Promises.{checked-one}
+use Rattle.theory.specs.Refusal.{maxDue}
+use Rattle.theory.specs.Joining.{limit, joined, taken, wanted, joinedQbits, joinedDue}
+use Rattle.theory.specs.plan.Needed.{width-low}
+use Rattle.theory.specs.check.Promises.{checked-one, not-refused}
+use Rattle.theory.specs.check.Refusals.{none-due, clear-none, else-first}
+use Rattle.theory.specs.layout.Images.{image-length}
+use Rattle.theory.specs.layout.Kept.{joined-holding, taken-holding}
+use Rattle.theory.specs.layout.Sizes.{capacity-lt}
 use Rattle.theory.specs.list.Adding.{copies-kept, copies-single, copies-added, copies-once}
 use Rattle.layout.specs.declared.numbers.Numbers.{Numbers}
-use Rattle.layout.specs.Verdicts.{lowestDue}
-use Rattle.filter.specs.Asking.{CheckedOn}
+use Rattle.layout.specs.Verdicts.{lowestDue, SoundOf}
+use Rattle.filter.specs.Asking.{CheckedOn, shapeOf}
+use Rattle.filter.specs.Listing.{HoldsOf}
 use Rattle.filter.specs.Pinned.{alike, apart}
 use Rattle.growth.specs.declared.rebuild.Rebuilt.{Rebuilt}
-use Rattle.growth.specs.declared.rebuild.Rebuilt.the-variants.{Filter, Refused}
-use Rattle.growth.specs.Rebuilding.{Lands}
+use Rattle.growth.specs.declared.rebuild.Rebuilt.the-variants.{Filter}
+use Rattle.growth.specs.Says.{rebuiltSays, rebuilt-tells}
+use Rattle.growth.specs.Rebuilding.{Lands, held-under}
+use Rattle.growth.specs.Limits.{width-found, limit-widths, joined-within}
+use Rattle.growth.specs.Wider.{none-few}
+use Rattle.growth.specs.Both.{shows-self, shows-other, own-wanted}
 use Rattle.growth.specs.Pinned.{lands-one}
-use Rattle.growth.specs.Merging.{HeldBy, widthOf, MergesTo, Merges}
+use Rattle.growth.specs.Merging.{HeldBy, widthOf, qbitsFor, MergesTo, Merges}
 
 -- ---- no choice
 abbrev Outcome : Type 0
 Outcome = Rebuilt × List ℕ
 
 abbrev No : List ℕ → ℕ → Outcome → Type 0
-No d k x = (x .0 ≡ Refused k) × (x .1 ≡ d)
+No d k x = (rebuiltSays (x .0) ≡ refuses k) × (x .1 ≡ d)
 
 merges-one : (n m : Numbers) (keep : ℕ) (la lb d : List ℕ) (x y : Outcome) → MergesTo n m keep la lb d (x .0) (x .1) → MergesTo n m keep la lb d (y .0) (y .1) → x ≡ y
 merges-one n m keep la lb d x y p g = go (decLt (widthOf m) (widthOf n)) (decLt (widthOf n) (widthOf m))
   where
     go : Dec (widthOf m < widthOf n) → Dec (widthOf n < widthOf m) → x ≡ y
-    go (yes h) z = alike x y (p .narrower h) (g .narrower h)
+    go (yes h) z = alike rebuiltSays rebuilt-tells x y (p .narrower h) (g .narrower h)
     go (no h) (yes z) = lands-one _ _ _ _ _ d x y (p .wider z) (g .wider z)
     go (no h) (no z) = lands-one _ _ _ _ _ d x y (p .equal (omega arith)) (g .equal (omega arith))
 
@@ -42,39 +56,113 @@ pub merge-pinned : (n : Numbers) (s : List ℕ) (m : Numbers) (o : List ℕ) (ke
     → (a ≡ b) × (t ≡ u)
 merge-pinned n s m o keep d a b t u p g =
     apart (a, t) (b, u)
-    (checked-one (No d) (λ la (x : Outcome). CheckedOn m o (λ k. No d k x) (λ lb. MergesTo n m keep la lb d (x .0) (x .1))) _ _ _ _ s (λ k x y. alike x y)
-    (λ la _. checked-one (No d) (λ lb (x : Outcome). MergesTo n m keep la lb d (x .0) (x .1)) _ _ _ _ o (λ k x y. alike x y) (λ lb _. merges-one n m keep la lb d)) (a, t) (b, u) p g)
+    (checked-one (No d) (λ la (x : Outcome). CheckedOn m o (λ k. No d k x) (λ lb. MergesTo n m keep la lb d (x .0) (x .1))) _ _ _ _ s (λ k. alike rebuiltSays rebuilt-tells)
+    (λ la _. checked-one (No d) (λ lb (x : Outcome). MergesTo n m keep la lb d (x .0) (x .1)) _ _ _ _ o (λ k. alike rebuiltSays rebuilt-tells) (λ lb _. merges-one n m keep la lb d)) (a, t) (b, u) p g)
 
--- ---- what the result holds
--- the result is the image of a list, of which P says how often it has each fingerprint
-abbrev pub Holds-as : Numbers → List ℕ → (ℕ → ℕ → Type 0) → Type 0
-Holds-as r t P = (l : List ℕ) × (t ≡ image (r .qbits) (r .rbits) l) × ((g : ℕ) → P g (copies g l))
-
-filter-tells : (x y : Numbers) → Filter x ≡ Filter y → x ≡ y
-filter-tells x y e = cc
-
-never : (x : Numbers) (k : ℕ) → Filter x ≡ Refused k → ⊥
-never x k e = let z : _≡_ {A = ℕ} 0 1 = cc in omega arith
-
--- a filter that a rebuild answers with is the image of the list
-landed : (k q r mx : ℕ) (l d : List ℕ) (x : Numbers) (t : List ℕ) → Lands k q r mx l d (Filter x) t → t ≡ image (x .qbits) (x .rbits) l
+-- ---- a rebuild that is not refused: none was due, and record and buffer are those of the list
+landed : (k q r mx : ℕ) (l d : List ℕ) (x : Numbers) (t : List ℕ) → Lands k q r mx l d (gives x) t
+    → (k ≡ 0) × (x ≡ record { len = length l; qbits = q; rbits = r; «max_qbits» = mx }) × (t ≡ image q r l)
 landed k q r mx l d x t p = go (eq-zero-or-pos k)
   where
-    go : (k ≡ 0) ⊎ (0 < k) → t ≡ image (x .qbits) (x .rbits) l
-    go (inr h) = absurd (never x k (p .refused h .0))
-    go (inl e) =
-        let b = p .built e in
-        let f = filter-tells x _ (b .0) in
-        b .1 ∙ sym (ap (λ (z : Numbers). image (z .qbits) (z .rbits) l) f)
+    go : (k ≡ 0) ⊎ (0 < k) → (k ≡ 0) × (x ≡ record { len = length l; qbits = q; rbits = r; «max_qbits» = mx }) × (t ≡ image q r l)
+    go (inl e) = (e, ap (values x) (p .built e .0), p .built e .1)
+    go (inr h) = absurd (omega (arith, ap number (p .refused h .0)))
 
-module _ (n : Numbers) (s : List ℕ) (m : Numbers) (o : List ℕ) (keep : ℕ) (d : List ℕ) (x : Numbers) (t : List ℕ) (p : Merges n s m o keep d (Filter x) t)
-    (e : lowestDue n s ≡ 0) (f : lowestDue m o ≡ 0) (la lb : List ℕ) (ha : HeldBy n s la) (hb : HeldBy m o lb) where
-  cases : MergesTo n m keep la lb d (Filter x) t
-  cases = p .sound e la ha .sound f lb hb
+-- and if that is a holding of allowed widths, the filter holds it
+module _ (k q r mx : ℕ) (l d : List ℕ) (x : Numbers) (t : List ℕ) (p : Lands k q r mx l d (gives x) t) (w : Widths q r) (e : maxDue q r mx ≡ 0) (h : Holding (slots q) (2 ^ r) l) where
+  landed-holds : (lowestDue x t ≡ 0) × HoldsOf x t l
+  landed-holds =
+      let b = landed k q r mx l d x t p in
+      rw (b .1, b .2) (
+        clear-none q r (length l) mx (length (image q r l)) (record { widths = w; size-is = image-length q r l; fewer = h .fewer; max-none = e }),
+        record { holding = h; many = refl; bytes = refl },
+      )
 
+-- ---- a merge that is not refused
+module _ (n : Numbers) (s : List ℕ) (m : Numbers) (o : List ℕ) (keep : ℕ) (d : List ℕ) (x : Numbers) (t : List ℕ) (p : Merges n s m o keep d (Filter x) t) where
+  never : (k : ℕ) → gives x ≡ refuses k → ⊥
+  never k e = let z : _≡_ {A = ℕ} 0 1 = cc in omega arith
+
+  -- was one of two sound filters
+  both : (y : SoundOf n s) × (z : SoundOf m o) × MergesTo n m keep (y .held) (z .held) d (Filter x) t
+  both =
+      let y = not-refused _ _ _ _ s _ _ p (λ k z. never k (z .0)) in
+      let z = not-refused _ _ _ _ o _ _ (y .1) (λ k z. never k (z .0)) in
+      (y .0, z .0, z .1)
+
+  pub merged-self : SoundOf n s
+  merged-self = both .0
+
+  pub merged-other : SoundOf m o
+  merged-other = both .1
+
+  module _ (la lb : List ℕ) (ha : HeldBy n s la) (hb : HeldBy m o lb) where
+    abbrev e : lowestDue n s ≡ 0
+    e = both .0 .none
+
+    abbrev f : lowestDue m o ≡ 0
+    f = both .1 .none
+
+    cases : MergesTo n m keep la lb d (Filter x) t
+    cases = p .sound e la ha .sound f lb hb
+
+    under-self : Under (2 ^ widthOf n) la
+    under-self = held-under (shapeOf n) s la (shows-self n s m o e f la ha)
+
+    -- equal widths: it holds the two together, at the width that has room for them
+    equal-holds : widthOf m ≡ widthOf n → (lowestDue x t ≡ 0) × HoldsOf x t (joined keep la lb)
+    unfolding slots joinedQbits
+    equal-holds same =
+        let q = qbitsFor n keep la lb in
+        let r = widthOf n - q in
+        let none = else-first (joinedDue (n .qbits) (n .«max_qbits») (wanted keep la lb)) _ (landed _ q r (n .«max_qbits») (joined keep la lb) d x t (cases .equal same) .0) in
+        let high = joined-within (n .qbits) (n .«max_qbits») (wanted keep la lb) none in
+        let low : n .qbits ≤ q = width-low (suc (limit (n .qbits) (n .«max_qbits») - n .qbits)) (n .qbits) (wanted keep la lb) in
+        let w = limit-widths n s e q low high in
+        let sum : 2 ^ q * 2 ^ r ≡ 2 ^ widthOf n = sym (pow-add 2 q r) ∙ ap (λ z. 2 ^ z) (omega (arith, w .2)) in
+        let room : wanted keep la lb ≤ capacity q = width-found (suc (limit (n .qbits) (n .«max_qbits») - n .qbits)) (n .qbits) (wanted keep la lb) (omega arith) in
+        let ub : Under (2 ^ widthOf n) lb = subst (λ z. Under (2 ^ z) lb) same (held-under (shapeOf m) o lb (shows-other n s m o e f lb hb)) in
+        landed-holds _ q r (n .«max_qbits») (joined keep la lb) d x t (cases .equal same) (w .0) (w .1)
+        (joined-holding (2 ^ q) (2 ^ r) la lb (ha .holding .ascending) (rw sum under-self) keep (rw sum ub) (omega (arith, own-wanted keep la lb .1, room, capacity-lt q (w .0 .low))))
+
+    -- other wider: it holds self with what is taken of the other, cut to self's width
+    wider-holds : widthOf n < widthOf m → (lowestDue x t ≡ 0) × HoldsOf x t (taken keep (n .qbits) (n .rbits) la lb)
+    unfolding slots
+    wider-holds more =
+        let c = none-due (n .qbits) (n .rbits) (n .len) (n .«max_qbits») (length s) e in
+        let l = taken keep (n .qbits) (n .rbits) la lb in
+        let none = else-first _ _ (landed _ (n .qbits) (n .rbits) (n .«max_qbits») l d x t (cases .wider more) .0) in
+        landed-holds _ (n .qbits) (n .rbits) (n .«max_qbits») l d x t (cases .wider more) (c .widths) (c .max-none)
+        (taken-holding (2 ^ n .qbits) (2 ^ n .rbits) la lb (ha .holding .ascending) (ha .holding .under) keep (n .qbits) (n .rbits) (sym (pow-add 2 (n .qbits) (n .rbits)))
+        (none-few (n .qbits) (c .widths .low) la l none (ha .holding .fewer)))
+
+  -- and left a sound one
+  pub merged-sound : SoundOf x t
+  merged-sound = go (decLt (widthOf m) (widthOf n)) (decLt (widthOf n) (widthOf m))
+    where
+      la : List ℕ
+      la = both .0 .held
+
+      lb : List ℕ
+      lb = both .1 .held
+
+      from : (l : List ℕ) → (lowestDue x t ≡ 0) × HoldsOf x t l → SoundOf x t
+      from l h = record { none = h .0; held = l; holds = h .1 }
+
+      go : Dec (widthOf m < widthOf n) → Dec (widthOf n < widthOf m) → SoundOf x t
+      go (yes h) z = absurd (omega (arith, ap number (both .2 .narrower h .0)))
+      go (no h) (yes z) = from _ (wider-holds la lb (both .0 .holds) (both .1 .holds) z)
+      go (no h) (no z) = from _ (equal-holds la lb (both .0 .holds) (both .1 .holds) (omega arith))
+
+-- ---- what the result holds
+-- a list of which P says how often it has each fingerprint
+abbrev pub Holds-as : Numbers → List ℕ → (ℕ → ℕ → Type 0) → Type 0
+Holds-as x t P = (l : List ℕ) × HoldsOf x t l × ((g : ℕ) → P g (copies g l))
+
+module _ (n : Numbers) (s : List ℕ) (m : Numbers) (o : List ℕ) (keep : ℕ) (d : List ℕ) (x : Numbers) (t : List ℕ) (p : Merges n s m o keep d (Filter x) t) (la lb : List ℕ) (ha : HeldBy n s la) (hb : HeldBy m o lb) where
   -- equal widths: with duplicates, multiplicities add for every fingerprint; without, holding is the union, once each
   pub merged-adds : widthOf m ≡ widthOf n → 0 < keep → Holds-as x t (λ g c. c ≡ copies g la + copies g lb)
-  merged-adds w k = (joined keep la lb, landed _ _ _ _ _ d x t (cases .equal w), λ g. with-all keep k g)
+  merged-adds w k = (joined keep la lb, equal-holds n s m o keep d x t p la lb ha hb w .1, λ g. with-all keep k g)
     where
       with-all : (keep : ℕ) → 0 < keep → (g : ℕ) → copies g (joined keep la lb) ≡ copies g la + copies g lb
       with-all zero k g = absurd (omega arith)
@@ -82,7 +170,7 @@ module _ (n : Numbers) (s : List ℕ) (m : Numbers) (o : List ℕ) (keep : ℕ) 
 
   pub merged-union : widthOf m ≡ widthOf n → keep ≡ 0 → Holds-as x t (λ g c. c ≡ min 1 (copies g la + copies g lb))
   merged-union w k =
-      (joined keep la lb, landed _ _ _ _ _ d x t (cases .equal w), λ g. ap (λ z. copies g (joined z la lb)) k ∙ copies-single g la lb)
+      (joined keep la lb, equal-holds n s m o keep d x t p la lb ha hb w .1, λ g. ap (λ z. copies g (joined z la lb)) k ∙ copies-single g la lb)
 
   -- other wider: the same of its fingerprints cut to self's width, and self's repeats stay
   abbrev cuts : List ℕ
@@ -90,7 +178,7 @@ module _ (n : Numbers) (s : List ℕ) (m : Numbers) (o : List ℕ) (keep : ℕ) 
 
   pub merged-cut-adds : widthOf n < widthOf m → 0 < keep → Holds-as x t (λ g c. c ≡ copies g la + copies g cuts)
   unfolding taken
-  merged-cut-adds w k = (taken keep (n .qbits) (n .rbits) la lb, landed _ _ _ _ _ d x t (cases .wider w), λ g. with-all keep k g)
+  merged-cut-adds w k = (taken keep (n .qbits) (n .rbits) la lb, wider-holds n s m o keep d x t p la lb ha hb w .1, λ g. with-all keep k g)
     where
       with-all : (keep : ℕ) → 0 < keep → (g : ℕ) → copies g (taken keep (n .qbits) (n .rbits) la lb) ≡ copies g la + copies g cuts
       with-all zero k g = absurd (omega arith)
@@ -99,4 +187,4 @@ module _ (n : Numbers) (s : List ℕ) (m : Numbers) (o : List ℕ) (keep : ℕ) 
   pub merged-cut-union : widthOf n < widthOf m → keep ≡ 0 → Holds-as x t (λ g c. c ≡ max (copies g la) (min 1 (copies g cuts)))
   unfolding taken
   merged-cut-union w k =
-      (taken keep (n .qbits) (n .rbits) la lb, landed _ _ _ _ _ d x t (cases .wider w), λ g. ap (λ z. copies g (taken z (n .qbits) (n .rbits) la lb)) k ∙ copies-once g la cuts)
+      (taken keep (n .qbits) (n .rbits) la lb, wider-holds n s m o keep d x t p la lb ha hb w .1, λ g. ap (λ z. copies g (taken z (n .qbits) (n .rbits) la lb)) k ∙ copies-once g la cuts)

@@ -5,6 +5,7 @@ use mathlib.Core.Logic.{_≢_}
 use mathlib.Core.List.{List}
 use native.Mathlib.Omega.{arith}
 use lib.ListN.{length}
+use Rattle.theory.specs.Answer.{refuses}
 use Rattle.theory.specs.Shape.{capacity}
 use Rattle.theory.specs.Refusal.{destinationDue, orElse}
 use Rattle.theory.specs.Sound.{Holds}
@@ -14,6 +15,7 @@ use Rattle.layout.specs.declared.shape.Shape.{Shape}
 use Rattle.filter.specs.Asking.{CheckedOn, shapeOf}
 use Rattle.growth.specs.declared.rebuild.Rebuilt.{Rebuilt}
 use Rattle.growth.specs.declared.rebuild.Rebuilt.the-variants.{Refused}
+use Rattle.growth.specs.Says.{rebuiltSays}
 use Rattle.growth.specs.Take.{TakesIn}
 use Rattle.growth.specs.Rebuilding.{Lands}
 
@@ -32,24 +34,24 @@ abbrev pub EqualTo : Numbers → ℕ → List ℕ → List ℕ → List ℕ → 
 EqualTo n keep la lb d a t =
     let q = qbitsFor n keep la lb in
     let r = widthOf n - q in
-    Lands (orElse (joinedDue (n .qbits) (n .«max_qbits») (wanted keep la lb)) (destinationDue q r (length d))) q r (n .«max_qbits») (joined keep la lb) d a t
+    Lands (orElse (joinedDue (n .qbits) (n .«max_qbits») (wanted keep la lb)) (destinationDue q r (length d))) q r (n .«max_qbits») (joined keep la lb) d (rebuiltSays a) t
 
 -- other wider: qbits stays; 7, then 12
 abbrev pub WiderTo : Numbers → ℕ → List ℕ → List ℕ → List ℕ → Rebuilt → List ℕ → Type 0
 WiderTo n keep la lb d a t =
     let l = taken keep (n .qbits) (n .rbits) la lb in
-    Lands (orElse (takenDue (n .qbits) la l) (destinationDue (n .qbits) (n .rbits) (length d))) (n .qbits) (n .rbits) (n .«max_qbits») l d a t
+    Lands (orElse (takenDue (n .qbits) la l) (destinationDue (n .qbits) (n .rbits) (length d))) (n .qbits) (n .rbits) (n .«max_qbits») l d (rebuiltSays a) t
 
 -- other's width is smaller: 8; or one of the two cases
 pub record MergesTo (n m : Numbers) (keep : ℕ) (la lb d : List ℕ) (a : Rebuilt) (t : List ℕ) : Type 0 where
-  pub narrower : widthOf m < widthOf n → (a ≡ Refused 8) × (t ≡ d)
+  pub narrower : widthOf m < widthOf n → (rebuiltSays a ≡ refuses 8) × (t ≡ d)
   pub equal : widthOf m ≡ widthOf n → EqualTo n keep la lb d a t
   pub wider : widthOf n < widthOf m → WiderTo n keep la lb d a t
 
 -- self's numbers 1 to 6, other's 1 to 6, then the cases; what is refused leaves the destination as it was
 abbrev pub Merges : Numbers → List ℕ → Numbers → List ℕ → ℕ → List ℕ → Rebuilt → List ℕ → Type 0
 Merges n s m o keep d a t =
-    CheckedOn n s (λ k. (a ≡ Refused k) × (t ≡ d)) (λ la. CheckedOn m o (λ k. (a ≡ Refused k) × (t ≡ d)) (λ lb. MergesTo n m keep la lb d a t))
+    CheckedOn n s (λ k. (rebuiltSays a ≡ refuses k) × (t ≡ d)) (λ la. CheckedOn m o (λ k. (rebuiltSays a ≡ refuses k) × (t ≡ d)) (λ lb. MergesTo n m keep la lb d a t))
 
 -- ---- how the code comes to it
 abbrev pub mostOf : ℕ → ℕ

@@ -1,80 +1,76 @@
 -- What the promises of this crate's public calls pin down: of each, any two outcomes (the answer with its record, and every lent byte) that keep its promise coincide.
 -- Checked calls: for all inputs. The quick call: where a number 1 to 5 is due or the buffer is sound, and there it does what the checked one does. Assumes nothing.
-use Prim.Native.Nat.{ℕ, _≤_, _<_, max}
+use Prim.Native.Nat.{ℕ, _<_}
 use mathlib.Core.Path.{_≡_, sym, ap, _∙_}
 use mathlib.Core.Logic.{_⊎_, inl, inr}
 use mathlib.Core.List.{List}
-use native.Mathlib.Omega.{arith}
-use native.Mathlib.Decide.{decLe}
 use native.Mathlib.Nat.{eq-zero-or-pos}
 use lib.ListN.{length}
 use denote.Ref.{RefT}
-use Rattle.theory.specs.Shape.{capacity}
-use Rattle.theory.specs.Holding.{copies}
+use Rattle.theory.specs.Answer.{Answer, refuses}
 use Rattle.theory.specs.check.Promises.{checked-one, quick-one, quick-checked}
 use Rattle.layout.specs.declared.numbers.Numbers.{Numbers}
-use Rattle.filter.specs.Asking.{fingerprintOf}
-use Rattle.writing.specs.Writing.{Inside}
+use Rattle.writing.specs.Writing.{inserting}
 use Rattle.filter.specs.Listing.{HoldsOf}
 use Rattle.filter.specs.Pinned.{Settled, alike, apart}
 use Rattle.growth.specs.declared.rebuild.Rebuilt.{Rebuilt}
-use Rattle.growth.specs.declared.rebuild.Rebuilt.the-variants as rebuilt
 use Rattle.growth.specs.declared.spare.Placed.{Placed}
-use Rattle.growth.specs.declared.spare.Placed.the-variants as placed
 use Rattle.growth.specs.Rebuilding.{Lands, GrowsTo, Grows, growDue}
-use Rattle.growth.specs.Spare.{Places, InsertSpare, InsertSpareQuick}
+use Rattle.growth.specs.Says.{rebuiltSays, rebuilt-tells, PlacedIn, placedSays, placed-tells}
+use Rattle.growth.specs.Spare.{Places, SpareLeaves, InsertSpare, InsertSpareQuick}
 use Rattle.growth.specs.Holder.{holderOf}
 
 -- ---- a rebuild: an outcome is the answer and the destination afterwards
-pub lands-one : (k q r mx : ℕ) (l d : List ℕ) (x y : Rebuilt × List ℕ) → Lands k q r mx l d (x .0) (x .1) → Lands k q r mx l d (y .0) (y .1) → x ≡ y
+pub lands-one : (k q r mx : ℕ) (l d : List ℕ) (x y : Rebuilt × List ℕ) → Lands k q r mx l d (rebuiltSays (x .0)) (x .1) → Lands k q r mx l d (rebuiltSays (y .0)) (y .1) → x ≡ y
 lands-one k q r mx l d x y p w = go (eq-zero-or-pos k)
   where
     go : (k ≡ 0) ⊎ (0 < k) → x ≡ y
-    go (inl z) = alike x y (p .built z) (w .built z)
-    go (inr z) = alike x y (p .refused z) (w .refused z)
+    go (inl z) = alike rebuiltSays rebuilt-tells x y (p .built z) (w .built z)
+    go (inr z) = alike rebuiltSays rebuilt-tells x y (p .refused z) (w .refused z)
 
 pub rebuild-grown-pinned : (n : Numbers) (s d : List ℕ) (a b : Rebuilt) (t u : List ℕ) → Grows n s d a t → Grows n s d b u → (a ≡ b) × (t ≡ u)
 rebuild-grown-pinned n s d a b t u p q =
     apart (a, t) (b, u)
-    (checked-one (λ k (x : Rebuilt × List ℕ). (x .0 ≡ rebuilt.Refused k) × (x .1 ≡ d)) (λ l (x : Rebuilt × List ℕ). GrowsTo n l d (x .0) (x .1)) _ _ _ _ s
-    (λ k x y g h. alike x y g h) (λ l _ x y g h. lands-one _ _ _ _ l d x y g h) (a, t) (b, u) p q)
+    (checked-one (λ k (x : Rebuilt × List ℕ). (rebuiltSays (x .0) ≡ refuses k) × (x .1 ≡ d)) (λ l (x : Rebuilt × List ℕ). GrowsTo n l d (x .0) (x .1)) _ _ _ _ s
+    (λ k. alike rebuiltSays rebuilt-tells) (λ l _ x y g h. lands-one _ _ _ _ l d x y g h) (a, t) (b, u) p q)
 
 -- ---- insert with a spare: an outcome is the answer, the old buffer and the spare afterwards
 abbrev Outcome : Type 0
 Outcome = Placed × List ℕ × List ℕ
 
-both : {a : Placed} {t e : List ℕ} (x y : Outcome) → (x .0 ≡ a) × (x .1 ≡ t) × (x .2 ≡ e) → (y .0 ≡ a) × (y .1 ≡ t) × (y .2 ≡ e) → x ≡ y
-both x y p q = λ i. ((p .0 ∙ sym (q .0)) i, (p .1 ∙ sym (q .1)) i, (p .2 ∙ sym (q .2)) i)
+both : {v : Answer PlacedIn} {t e : List ℕ} (x y : Outcome) → (placedSays (x .0) ≡ v) × (x .1 ≡ t) × (x .2 ≡ e) → (placedSays (y .0) ≡ v) × (y .1 ≡ t) × (y .2 ≡ e) → x ≡ y
+both x y p q =
+    let a = placed-tells (x .0) (y .0) (p .0 ∙ sym (q .0)) in
+    λ i. (a i, (p .1 ∙ sym (q .1)) i, (p .2 ∙ sym (q .2)) i)
 
 parts : (x y : Outcome) → x ≡ y → (x .0 ≡ y .0) × (x .1 ≡ y .1) × (x .2 ≡ y .2)
 parts x y e = (ap (λ z. z .0) e, ap (λ z. z .1) e, ap (λ z. z .2) e)
 
 module _ (n : Numbers) (hash most : ℕ) (s d : List ℕ) where
   abbrev Refused : ℕ → Outcome → Type 0
-  Refused k x = (x .0 ≡ placed.Refused k) × (x .1 ≡ s) × (x .2 ≡ d)
+  Refused k x = (placedSays (x .0) ≡ refuses k) × (x .1 ≡ s) × (x .2 ≡ d)
 
   abbrev Right : List ℕ → Outcome → Type 0
-  Right l x = Places n (fingerprintOf n hash) most l s d (x .0) (x .1) (x .2)
+  Right l x = Places n (inserting n hash most) l s d (placedSays (x .0)) (x .1) (x .2)
 
   abbrev Left : Outcome → Type 0
-  Left x = Inside s (x .1) × (length (x .2) ≡ length d)
+  Left x = SpareLeaves n s d (x .0) (x .1) (x .2)
 
   refused-one : (k : ℕ) (x y : Outcome) → Refused k x → Refused k y → x ≡ y
   refused-one k x y p q = both x y p q
 
   right-one : (l : List ℕ) → HoldsOf n s l → (x y : Outcome) → Right l x → Right l y → x ≡ y
-  right-one l _ x y p q = go (decLe (max 1 most) (copies (fingerprintOf n hash) l)) (decLe (capacity (n .qbits)) (n .len)) (eq-zero-or-pos (growDue n (length d)))
+  right-one l _ x y p q = go (eq-zero-or-pos (inserting n hash most .due l)) (eq-zero-or-pos (growDue n (length d)))
     where
-      go : Dec (max 1 most ≤ copies (fingerprintOf n hash) l) → Dec (capacity (n .qbits) ≤ n .len) → (growDue n (length d) ≡ 0) ⊎ (0 < growDue n (length d)) → x ≡ y
-      go (yes c) b z = both x y (p .enough c) (q .enough c)
-      go (no c) (no b) z = both x y (p .added (omega arith) (omega arith)) (q .added (omega arith) (omega arith))
-      go (no c) (yes b) (inl z) =
-          let g = p .full (omega arith) b in
-          let h = q .full (omega arith) b in
+      go : (inserting n hash most .due l ≡ 0) ⊎ (0 < inserting n hash most .due l) → (growDue n (length d) ≡ 0) ⊎ (0 < growDue n (length d)) → x ≡ y
+      go (inl b) z = both x y (p .old b) (q .old b)
+      go (inr b) (inl z) =
+          let g = p .full b in
+          let h = q .full b in
           both x y (g .1 .moved z .0, g .0, g .1 .moved z .1) (h .1 .moved z .0, h .0, h .1 .moved z .1)
-      go (no c) (yes b) (inr z) =
-          let g = p .full (omega arith) b in
-          let h = q .full (omega arith) b in
+      go (inr b) (inr z) =
+          let g = p .full b in
+          let h = q .full b in
           both x y (g .1 .refused z .0, g .0, g .1 .refused z .1) (h .1 .refused z .0, h .0, h .1 .refused z .1)
 
   module _ (a b : Placed) (t u e g : List ℕ) where

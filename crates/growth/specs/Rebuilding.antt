@@ -1,5 +1,5 @@
 -- The promises of growth, document 01, and what every rebuild into a lent destination comes to.
-use Prim.Native.Nat.{ℕ, suc, _+_, _-_, _*_, _^_, _≤_, _<_, max}
+use Prim.Native.Nat.{ℕ, suc, _+_, _-_, _*_, _^_, _≤_, _<_}
 use mathlib.Core.Path.{_≡_, refl, sym, ap, subst, _∙_}
 use mathlib.Core.Logic.{_≢_}
 use mathlib.Core.List.{List, [], map}
@@ -10,6 +10,8 @@ use lib.Pow.{pow-add}
 use Rattle.theory.specs.tools.Choose.{choose-yes, choose-no}
 use Rattle.theory.specs.Shape.{Widths, slots, capacity, blocks, bytes, fingerprint}
 use Rattle.theory.specs.Holding.{Holding, Ascending, Under}
+use Rattle.theory.specs.Answer.{Answer, gives, refuses}
+use Rattle.theory.specs.Changing.{allowed}
 use Rattle.theory.specs.Image.{image}
 use Rattle.theory.specs.Refusal.{maxDue, destinationDue, orElse}
 use Rattle.theory.specs.Sound.{Holds}
@@ -17,6 +19,7 @@ use Rattle.theory.specs.Joining.{added, growthDue}
 use Rattle.theory.specs.number.Bytes.{Bytes, le}
 use Rattle.theory.specs.layout.Block.{tailAt}
 use Rattle.theory.specs.layout.Images.{is-image, image-is, image-tail}
+use Rattle.theory.specs.list.Changed.{allowed-high}
 use Rattle.theory.specs.list.UpTo.{addedUpTo, up-to-all, added-alone, cut-same}
 use Rattle.theory.specs.check.Refusals.{none-due, max-bad, max-good, else-none, else-some}
 use Rattle.theory.specs.Planning.{freshDue}
@@ -32,22 +35,23 @@ use Rattle.filter.specs.Asking.{CheckedOn, shapeOf, holds-shows}
 use Rattle.filter.specs.Lookup.{Shows}
 use Rattle.growth.specs.declared.rebuild.Rebuilt.{Rebuilt}
 use Rattle.growth.specs.declared.rebuild.Rebuilt.the-variants.{Filter, Refused}
+use Rattle.growth.specs.Says.{rebuiltSays}
 use Rattle.growth.specs.Take.{SameTail, takenIn, TakesIn}
 
 -- number k is due, and the destination stays as it was; or none is, and it is the image of l at the widths q and r
-pub record Lands (k q r mx : ℕ) (l d : List ℕ) (a : Rebuilt) (t : List ℕ) : Type 0 where
-  pub refused : 0 < k → (a ≡ Refused k) × (t ≡ d)
-  pub built : k ≡ 0 → (a ≡ Filter (record { len = length l; qbits = q; rbits = r; «max_qbits» = mx })) × (t ≡ image q r l)
+pub record Lands (k q r mx : ℕ) (l d : List ℕ) (a : Answer Numbers) (t : List ℕ) : Type 0 where
+  pub refused : 0 < k → (a ≡ refuses k) × (t ≡ d)
+  pub built : k ≡ 0 → (a ≡ gives (record { len = length l; qbits = q; rbits = r; «max_qbits» = mx })) × (t ≡ image q r l)
 
 -- growth, 7 and then 12: the same holding at qbits + 1, rbits - 1, len and max_qbits kept
 abbrev pub growDue : Numbers → ℕ → ℕ
 growDue n size = orElse (growthDue (n .qbits) (n .«max_qbits»)) (destinationDue (n .qbits + 1) (n .rbits - 1) size)
 
 abbrev pub GrowsTo : Numbers → List ℕ → List ℕ → Rebuilt → List ℕ → Type 0
-GrowsTo n l d a t = Lands (growDue n (length d)) (n .qbits + 1) (n .rbits - 1) (n .«max_qbits») l d a t
+GrowsTo n l d a t = Lands (growDue n (length d)) (n .qbits + 1) (n .rbits - 1) (n .«max_qbits») l d (rebuiltSays a) t
 
 abbrev pub Grows : Numbers → List ℕ → List ℕ → Rebuilt → List ℕ → Type 0
-Grows n s d a t = CheckedOn n s (λ k. (a ≡ Refused k) × (t ≡ d)) (λ l. GrowsTo n l d a t)
+Grows n s d a t = CheckedOn n s (λ k. (rebuiltSays a ≡ refuses k) × (t ≡ d)) (λ l. GrowsTo n l d a t)
 
 -- ---- how the code comes to it
 -- a destination made empty, or 12 and as it was
@@ -109,9 +113,9 @@ shows-empty h low =
     record { holding = e; image = image-is (h .qbits) (h .rbits) low [] e }
 
 -- with duplicates out of reach, a list of the width is added as it is
-pub taken-all : (h : Shape) (most : ℕ) (a b : List ℕ) → Under (2 ^ (h .qbits + h .rbits)) b → length a + length b ≤ max 1 most → takenIn h most a b ≡ added a b
+pub taken-all : (h : Shape) (most : ℕ) (a b : List ℕ) → Under (2 ^ (h .qbits + h .rbits)) b → length a + length b ≤ most → takenIn h most a b ≡ added a b
 taken-all h most a b u n =
-    ap (addedUpTo (max 1 most) a) (cut-same (h .qbits) (h .rbits) b u) ∙ up-to-all (max 1 most) a b n
+    ap (addedUpTo (allowed most) a) (cut-same (h .qbits) (h .rbits) b u) ∙ up-to-all (allowed most) a b (omega (arith, allowed-high most))
 
 -- what a filter holds is of its width
 pub held-under : (h : Shape) (s l : List ℕ) → Shows h s l → Under (2 ^ (h .qbits + h .rbits)) l
@@ -120,7 +124,7 @@ held-under h s l w = rw (pow-add 2 (h .qbits) (h .rbits)) (w .holding .under)
 
 module _ (n : Numbers) (s : List ℕ) (e : lowestDue n s ≡ 0) (l : List ℕ) (w : Holds (n .qbits) (n .rbits) (n .len) s l) where
   -- a holding taken into an empty destination of the same sum of widths: itself, at other widths
-  pub taken-whole : (h : Shape) → Widths (h .qbits) (h .rbits) → h .qbits + h .rbits ≡ n .qbits + n .rbits → n .len ≤ capacity (h .qbits) → (most : ℕ) → n .len ≤ max 1 most → (a : ℕ) (t : List ℕ)
+  pub taken-whole : (h : Shape) → Widths (h .qbits) (h .rbits) → h .qbits + h .rbits ≡ n .qbits + n .rbits → n .len ≤ capacity (h .qbits) → (most : ℕ) → n .len ≤ most → (a : ℕ) (t : List ℕ)
       → TakesIn (shapeOf n) s (n .len) h (image (h .qbits) (h .rbits) []) 0 most a t → Shows h t l × (a ≡ length l)
   taken-whole h wd sum few most reach a t g =
       let c = none-due (n .qbits) (n .rbits) (n .len) (n .«max_qbits») (length s) e in
@@ -135,13 +139,13 @@ abbrev pub GrowWorked : Numbers → List ℕ → List ℕ → Rebuilt → List �
 GrowWorked n s d a t = (l : List ℕ) → Holds (n .qbits) (n .rbits) (n .len) s l → GrowsTo n l d a t
 
 module _ (k q r mx : ℕ) (l d : List ℕ) where
-  pub lands-refused : (j : ℕ) → k ≡ j → 0 < j → Lands k q r mx l d (Refused j) d
-  lands-refused j e h = record { refused = λ _. (ap Refused (sym e), refl); built = λ z. absurd (omega arith) }
+  pub lands-refused : (j : ℕ) → k ≡ j → 0 < j → Lands k q r mx l d (refuses j) d
+  lands-refused j e h = record { refused = λ _. (ap refuses (sym e), refl); built = λ z. absurd (omega arith) }
 
-  pub lands-built : k ≡ 0 → (a : ℕ) → a ≡ length l → (t : List ℕ) → t ≡ image q r l → Lands k q r mx l d (Filter (record { len = a; qbits = q; rbits = r; «max_qbits» = mx })) t
+  pub lands-built : k ≡ 0 → (a : ℕ) → a ≡ length l → (t : List ℕ) → t ≡ image q r l → Lands k q r mx l d (gives (record { len = a; qbits = q; rbits = r; «max_qbits» = mx })) t
   lands-built e a i t g = record {
     refused = λ z. absurd (omega arith);
-    built = λ _. (ap (λ z. Filter (record { len = z; qbits = q; rbits = r; «max_qbits» = mx })) i, g);
+    built = λ _. (ap (λ z. gives (record { len = z; qbits = q; rbits = r; «max_qbits» = mx })) i, g);
   }
 
 pub grow-seven : (n : Numbers) (size : ℕ) → n .«max_qbits» ≤ n .qbits → growDue n size ≡ 7
@@ -175,7 +179,7 @@ module _ (n : Numbers) (s : List ℕ) (e : lowestDue n s ≡ 0) (more : n .qbits
         omega (arith, m .2),
       )
 
-  pub grow-built : (d t₀ : List ℕ) → Empties (n .qbits + 1) (n .rbits - 1) d 0 t₀ → (most a : ℕ) → n .len ≤ max 1 most → (t : List ℕ) → Bytes t → length t ≡ length d
+  pub grow-built : (d t₀ : List ℕ) → Empties (n .qbits + 1) (n .rbits - 1) d 0 t₀ → (most a : ℕ) → n .len ≤ most → (t : List ℕ) → Bytes t → length t ≡ length d
       → TakesIn (shapeOf n) s (n .len) grown t₀ 0 most a t → GrowWorked n s d (Filter (record { len = a; qbits = n .qbits + 1; rbits = n .rbits - 1; «max_qbits» = n .«max_qbits» })) t
   grow-built d t₀ m most a reach t b size g = λ l w.
       let c = none-due (n .qbits) (n .rbits) (n .len) (n .«max_qbits») (length s) e in

@@ -1,54 +1,75 @@
 -- The promise of insert with a spare, document 01.
-use Prim.Native.Nat.{ℕ, zero, suc, _+_, _-_, _≤_, _<_, max}
+use Prim.Native.Nat.{ℕ, zero, suc, _+_, _-_, _≤_, _<_}
 use mathlib.Core.Path.{_≡_, refl, sym, ap, subst, _∙_}
-use mathlib.Core.Logic.{_≢_}
+use mathlib.Core.Logic.{_⊎_, inl, inr, _≢_}
 use mathlib.Core.List.{List}
 use native.Mathlib.Omega.{arith}
 use native.Mathlib.Decide.{decLt, ℕ-discrete}
+use native.Mathlib.Nat.{eq-zero-or-pos}
 use lib.ListN.{length}
 use Rattle.theory.specs.tools.Choose.{choose, choose-by}
+use Rattle.theory.specs.Answer.{Answer, gives, refuses, number}
 use Rattle.theory.specs.Shape.{slots, capacity, bytes}
-use Rattle.theory.specs.Holding.{copies, more}
+use Rattle.theory.specs.Changing.{Rule, insertAnswer, inserted}
 use Rattle.theory.specs.Image.{image}
 use Rattle.theory.specs.Refusal.{orElse, widthsDue, sizeDue, lenDue, maxDue, fullDue, dueOf, due}
+use Rattle.theory.specs.list.Changed.{due-some, room-due}
+use Rattle.theory.specs.check.Decides.{sound-dec}
+use Rattle.theory.specs.check.Promises.{not-refused}
 use Rattle.layout.specs.declared.numbers.Numbers.{Numbers}
-use Rattle.layout.specs.Verdicts.{lowestDue}
+use Rattle.layout.specs.Records.{withLen, Changed}
+use Rattle.layout.specs.Verdicts.{lowestDue, SoundOf}
 use Rattle.writing.specs.declared.writers.Inserted.{Inserted}
 use Rattle.writing.specs.declared.writers.Inserted.the-variants as inserted
 use Rattle.filter.specs.Asking.{CheckedOn, QuickOn, fingerprintOf}
-use Rattle.writing.specs.Writing.{Insert, InsertQuick, Inserts, Inside, withLen}
 use Rattle.filter.specs.Listing.{HoldsOf}
+use Rattle.writing.specs.Says.{insertedSays, inserted-tells}
+use Rattle.writing.specs.Writing.{Turns, inserting, Insert, InsertQuick, Inside, InsertLeaves}
 use Rattle.growth.specs.declared.rebuild.Rebuilt.the-variants as rebuilt
 use Rattle.growth.specs.declared.spare.Placed.{Placed}
 use Rattle.growth.specs.declared.spare.Placed.the-variants.{InOld, InSpare, Refused}
-use Rattle.growth.specs.Rebuilding.{Grows, growDue}
+use Rattle.growth.specs.Says.{PlacedIn, placedIn, placedSays}
+use Rattle.growth.specs.Rebuilding.{Grows, GrowsTo, growDue}
 use Rattle.growth.specs.Growing.{grownTo, grows-room, grown-fingerprint, grown-clear, grown-holds, grown-room}
 
--- growth into the spare d, 7 and then 12, and one copy more of f there: e is the spare afterwards
-pub record Moves (n : Numbers) (f : ℕ) (l d : List ℕ) (a : Placed) (e : List ℕ) : Type 0 where
-  pub refused : 0 < growDue n (length d) → (a ≡ Refused (growDue n (length d))) × (e ≡ d)
-  pub moved : growDue n (length d) ≡ 0 → (a ≡ InSpare (copies f l) (grownTo n (n .len + 1))) × (e ≡ image (n .qbits + 1) (n .rbits - 1) (more f l))
+-- growth into the spare d, 7 and then 12, and the rule of insert there: e is the spare afterwards
+pub record Moves (n : Numbers) (rule : Rule) (l d : List ℕ) (a : Answer PlacedIn) (e : List ℕ) : Type 0 where
+  pub refused : 0 < growDue n (length d) → (a ≡ refuses (growDue n (length d))) × (e ≡ d)
+  pub moved : growDue n (length d) ≡ 0 → (a ≡ gives (placedIn (rule .answer l) 1 (grownTo n (length (rule .held l))))) × (e ≡ image (n .qbits + 1) (n .rbits - 1) (rule .held l))
 
--- The rule of insert on the old buffer s, which is t afterwards; on 7, and only then, the spare counts, and the old one is unchanged.
-pub record Places (n : Numbers) (f most : ℕ) (l s d : List ℕ) (a : Placed) (t e : List ℕ) : Type 0 where
-  pub enough : max 1 most ≤ copies f l → (a ≡ InOld (max 1 most) n) × (t ≡ s) × (e ≡ d)
-  pub added : copies f l < max 1 most → n .len < capacity (n .qbits) → (a ≡ InOld (copies f l) (withLen n (n .len + 1))) × (t ≡ image (n .qbits) (n .rbits) (more f l)) × (e ≡ d)
-  pub full : copies f l < max 1 most → capacity (n .qbits) ≤ n .len → (t ≡ s) × Moves n f l d a e
+-- the rule of insert on the old buffer s, which is t afterwards; where 7 is due, and only then, the spare counts, and the old one is unchanged
+pub record Places (n : Numbers) (rule : Rule) (l s d : List ℕ) (a : Answer PlacedIn) (t e : List ℕ) : Type 0 where
+  pub old : rule .due l ≡ 0 → (a ≡ gives (placedIn (rule .answer l) 0 (withLen n (length (rule .held l))))) × (t ≡ image (n .qbits) (n .rbits) (rule .held l)) × (e ≡ d)
+  pub full : 0 < rule .due l → (t ≡ s) × Moves n rule l d a e
 
 -- a refusal returns its number alone; both buffers stay the same
 abbrev pub InsertSpare : Numbers → ℕ → ℕ → List ℕ → List ℕ → Placed → List ℕ → List ℕ → Type 0
-InsertSpare n hash most s d a t e = CheckedOn n s (λ k. (a ≡ Refused k) × (t ≡ s) × (e ≡ d)) (λ l. Places n (fingerprintOf n hash) most l s d a t e)
+InsertSpare n hash most s d a t e =
+    CheckedOn n s (λ k. (placedSays a ≡ refuses k) × (t ≡ s) × (e ≡ d)) (λ l. Places n (inserting n hash most) l s d (placedSays a) t e)
 
--- on any buffer the quick form keeps the old one's length and last eight bytes, and the spare's length
+-- on any buffer the quick form keeps the old one's length and last eight bytes, and the spare whole unless the old one is sound; and what is refused has changed nothing
+pub record SpareLeaves (n : Numbers) (s d : List ℕ) (a : Placed) (t e : List ℕ) : Type 0 where
+  pub inside : Inside s t
+  pub whole : ¬ (SoundOf n s) → e ≡ d
+  pub refused : (k : ℕ) → placedSays a ≡ refuses k → (t ≡ s) × (e ≡ d)
+
 abbrev pub InsertSpareQuick : Numbers → ℕ → ℕ → List ℕ → List ℕ → Placed → List ℕ → List ℕ → Type 0
 InsertSpareQuick n hash most s d a t e =
-    QuickOn n s (λ k. (a ≡ Refused k) × (t ≡ s) × (e ≡ d)) (λ l. Places n (fingerprintOf n hash) most l s d a t e) (Inside s t × (length e ≡ length d))
+    QuickOn n s (λ k. (placedSays a ≡ refuses k) × (t ≡ s) × (e ≡ d)) (λ l. Places n (inserting n hash most) l s d (placedSays a) t e) (SpareLeaves n s d a t e)
 
 -- ---- how the code comes to it
 -- the answer of the insert into the spare
 abbrev pub inSpare : Inserted → Placed
 inSpare (inserted.Counted m after) = InSpare m after
 inSpare (inserted.Refused k) = Refused k
+
+abbrev spared : Answer Changed → Answer PlacedIn
+spared (gives c) = gives (placedIn (c .answer) 1 (c .numbers))
+spared (refuses k) = refuses k
+
+spare-says : (z : Inserted) → placedSays (inSpare z) ≡ spared (insertedSays z)
+spare-says (inserted.Counted m after) = refl
+spare-says (inserted.Refused k) = refl
 
 pub record PutsInSpare (n : Numbers) (hash most : ℕ) (s : List ℕ) (a : Placed) (t : List ℕ) : Type 0 where
   pub answer : Inserted
@@ -58,10 +79,11 @@ pub record PutsInSpare (n : Numbers) (hash most : ℕ) (s : List ℕ) (a : Place
 pub put-in-spare : (n : Numbers) (hash most : ℕ) (s : List ℕ) (z : Inserted) (t : List ℕ) → InsertQuick n hash most s z t → PutsInSpare n hash most s (inSpare z) t
 put-in-spare n hash most s z t h = record { answer = z; right = h; is = refl }
 
--- of a filter that is full for this fingerprint
-abbrev pub MovesWorked : Numbers → ℕ → ℕ → List ℕ → List ℕ → Placed → List ℕ → Type 0
-MovesWorked n hash most s d a e =
-    (l : List ℕ) → lowestDue n s ≡ 0 → HoldsOf n s l → copies (fingerprintOf n hash) l < max 1 most → Moves n (fingerprintOf n hash) l d a e
+-- what is promised of a filter that is full for this fingerprint, and of any other
+pub record MovesWorked (n : Numbers) (hash most : ℕ) (s d : List ℕ) (a : Placed) (e : List ℕ) : Type 0 where
+  pub right : (l : List ℕ) → lowestDue n s ≡ 0 → HoldsOf n s l → 0 < inserting n hash most .due l → Moves n (inserting n hash most) l d (placedSays a) e
+  pub whole : ¬ (SoundOf n s) → e ≡ d
+  pub refused : (k : ℕ) → placedSays a ≡ refuses k → e ≡ d
 
 -- what the answer of the plain insert leads to
 abbrev pub Settles : Numbers → ℕ → ℕ → List ℕ → List ℕ → Inserted → Placed → List ℕ → Type 0
@@ -69,33 +91,66 @@ Settles n hash most s d (inserted.Counted m after) a e = (a ≡ InOld m after) �
 Settles n hash most s d (inserted.Refused k) a e = (k ≢ 7 → (a ≡ Refused k) × (e ≡ d)) × (k ≡ 7 → MovesWorked n hash most s d a e)
 
 module _ (n : Numbers) (hash most : ℕ) (s d : List ℕ) where
-  abbrev f : ℕ
-  f = fingerprintOf n hash
+  -- growth that was refused has left the spare as it was
+  kept : (k : ℕ) (t : List ℕ) → Grows n s d (rebuilt.Refused k) t → t ≡ d
+  kept k t g = go (eq-zero-or-pos (lowestDue n s)) (sound-dec (n .qbits) (n .rbits) (n .len) (n .«max_qbits») s)
+    where
+      by : (l : List ℕ) → GrowsTo n l d (rebuilt.Refused k) t → (growDue n (length d) ≡ 0) ⊎ (0 < growDue n (length d)) → t ≡ d
+      by l p (inl z) = let x = p .built z .0 in let y : _≡_ {A = ℕ} 0 1 = cc in absurd (omega arith)
+      by l p (inr z) = p .refused z .1
+
+      go : (lowestDue n s ≡ 0) ⊎ (0 < lowestDue n s) → Dec (SoundOf n s) → t ≡ d
+      go (inr z) y = g .early z .1
+      go (inl z) (no y) = g .damaged z y .1
+      go (inl z) (yes y) = by (y .held) (g .sound z (y .held) (y .holds)) (eq-zero-or-pos (growDue n (length d)))
 
   -- growth was refused
   pub moves-refused : (k : ℕ) (t : List ℕ) → Grows n s d (rebuilt.Refused k) t → MovesWorked n hash most s d (Refused k) t
-  moves-refused k t g = λ l e h c.
-      let p = g .sound e l h in
-      record {
-        refused = λ z. let x = p .refused z .0 in let y : k ≡ growDue n (length d) = cc in (ap Refused y, p .refused z .1);
-        moved = λ z. let x = p .built z .0 in let y : _≡_ {A = ℕ} 0 1 = cc in absurd (omega arith);
-      }
+  moves-refused k t g = record {
+    right = λ l e h c.
+        let p = g .sound e l h in
+        record {
+          refused = λ z. (ap refuses (ap number (p .refused z .0)), p .refused z .1);
+          moved = λ z. let x = p .built z .0 in let y : _≡_ {A = ℕ} 0 1 = cc in absurd (omega arith);
+        };
+    whole = λ _. kept k t g;
+    refused = λ _ _. kept k t g;
+  }
 
   -- growth was done, and the insert into the spare found room
-  pub moves-grown : (g : Numbers) (m : List ℕ) → Grows n s d (rebuilt.Filter g) m → (a : Placed) (t : List ℕ) → PutsInSpare g hash most m a t → MovesWorked n hash most s d a t
-  moves-grown g m w a t p = λ l e h c.
-      let b = w .sound e l h in
-      record {
-        refused = λ z. let x = b .refused z .0 in let y : _≡_ {A = ℕ} 0 1 = cc in absurd (omega arith);
-        moved = λ z.
-            let x = b .built z .0 in
-            let y : g ≡ grownTo n (length l) = cc in
-            let above = grows-room n (length d) z in
-            let same = grown-fingerprint n s l e h above (length l) hash in
-            let i : InsertQuick (grownTo n (length l)) hash most (image (n .qbits + 1) (n .rbits - 1) l) (p .answer) t = rw (y, b .built z .1) at (p .right) in
-            let r = i .sound (grown-clear n s l e h above) l (grown-holds n s l e h above) .added (omega (arith, ap (λ (q : ℕ). copies q l) same)) (grown-room n s l e h above) in
-            (p .is ∙ ap inSpare (r .0) ∙ rw (same, h .many), r .1 ∙ rw same);
-      }
+  module _ (g : Numbers) (m : List ℕ) (w : Grows n s d (rebuilt.Filter g) m) (a : Placed) (t : List ℕ) (p : PutsInSpare g hash most m a t) where
+    abbrev f : ℕ
+    f = fingerprintOf n hash
+
+    in-spare : (l : List ℕ) → lowestDue n s ≡ 0 → HoldsOf n s l → growDue n (length d) ≡ 0
+        → (placedSays a ≡ gives (placedIn (insertAnswer most f l) 1 (grownTo n (length (inserted most f l))))) × (t ≡ image (n .qbits + 1) (n .rbits - 1) (inserted most f l))
+    in-spare l e h z =
+        let b = w .sound e l h .built z in
+        let x = b .0 in
+        let y : g ≡ grownTo n (length l) = cc in
+        let above = grows-room n (length d) z in
+        let same = grown-fingerprint n s l e h above (length l) hash in
+        let i : InsertQuick (grownTo n (length l)) hash most (image (n .qbits + 1) (n .rbits - 1) l) (p .answer) t = rw (y, b .1) at (p .right) in
+        let room = room-due (capacity (n .qbits + 1)) most (fingerprintOf (grownTo n (length l)) hash) l (grown-room n s l e h above) in
+        let r = i .sound (grown-clear n s l e h above) l (grown-holds n s l e h above) .done room in
+        (ap placedSays (p .is) ∙ spare-says (p .answer) ∙ ap spared (r .0) ∙ rw same, r .1 ∙ rw same)
+
+    grew : (y : SoundOf n s) × GrowsTo n (y .held) d (rebuilt.Filter g) m
+    grew = not-refused _ _ _ _ s _ _ w (λ k z. let x : _≡_ {A = ℕ} 0 1 = cc (z .0) in omega arith)
+
+    never : (l : List ℕ) → GrowsTo n l d (rebuilt.Filter g) m → 0 < growDue n (length d) → ⊥
+    never l b z = let x = b .refused z .0 in let y : _≡_ {A = ℕ} 0 1 = cc in omega arith
+
+    placed : (k : ℕ) → placedSays a ≡ refuses k → (growDue n (length d) ≡ 0) ⊎ (0 < growDue n (length d)) → ⊥
+    placed k x (inl z) = let y = in-spare (grew .0 .held) (grew .0 .none) (grew .0 .holds) z .0 in let v : _≡_ {A = ℕ} 0 1 = cc in omega arith
+    placed k x (inr z) = never (grew .0 .held) (grew .1) z
+
+    pub moves-grown : MovesWorked n hash most s d a t
+    moves-grown = record {
+      right = λ l e h c. record { refused = λ z. absurd (never l (w .sound e l h) z); moved = λ z. in-spare l e h z };
+      whole = λ y. absurd (y (grew .0));
+      refused = λ k x. absurd (placed k x (eq-zero-or-pos (growDue n (length d))));
+    }
 
 -- each answer of the plain insert
 module _ (n : Numbers) (hash most : ℕ) (s d : List ℕ) (z : Inserted) (a : Placed) (e : List ℕ) where
@@ -133,34 +188,49 @@ due-most q r len mx size =
 
 -- the plain insert answered z and left t; what that led to is a, with the spare e
 module _ (n : Numbers) (hash most : ℕ) (s d : List ℕ) (z : Inserted) (t : List ℕ) (a : Placed) (e : List ℕ) (w : Settles n hash most t d z a e) where
-  led : {z′ : Inserted} → z ≡ z′ → Settles n hash most t d z′ a e
-  led x = subst (λ (y : Inserted). Settles n hash most t d y a e) x w
+  led : (z′ : Inserted) → insertedSays z ≡ insertedSays z′ → Settles n hash most t d z′ a e
+  led z′ x = subst (λ (y : Inserted). Settles n hash most t d y a e) (inserted-tells z z′ x) w
 
-  refused : (k : ℕ) → k ≢ 7 → (z ≡ inserted.Refused k) × (t ≡ s) → (a ≡ Refused k) × (t ≡ s) × (e ≡ d)
+  refused : (k : ℕ) → k ≢ 7 → (insertedSays z ≡ refuses k) × (t ≡ s) → (placedSays a ≡ refuses k) × (t ≡ s) × (e ≡ d)
   refused k x p =
-      let r = led (p .0) .0 x in
-      (r .0, p .1, r .1)
+      let r = led (inserted.Refused k) (p .0) .0 x in
+      (ap placedSays (r .0), p .1, r .1)
 
-  early : (0 < lowestDue n s → (z ≡ inserted.Refused (lowestDue n s)) × (t ≡ s)) → 0 < lowestDue n s → (a ≡ Refused (lowestDue n s)) × (t ≡ s) × (e ≡ d)
+  early : (0 < lowestDue n s → (insertedSays z ≡ refuses (lowestDue n s)) × (t ≡ s)) → 0 < lowestDue n s → (placedSays a ≡ refuses (lowestDue n s)) × (t ≡ s) × (e ≡ d)
   early p h = refused (lowestDue n s) (λ x. omega (arith, due-most (n .qbits) (n .rbits) (n .len) (n .«max_qbits») (length s))) (p h)
 
-  places : (l : List ℕ) → lowestDue n s ≡ 0 → HoldsOf n s l → Inserts n (fingerprintOf n hash) most l s z t → Places n (fingerprintOf n hash) most l s d a t e
+  places : (l : List ℕ) → lowestDue n s ≡ 0 → HoldsOf n s l → Turns n (inserting n hash most) l s (insertedSays z) t → Places n (inserting n hash most) l s d (placedSays a) t e
   places l c h i = record {
-    enough = λ x.
-        let p = i .enough x in
-        let r = led (p .0) in
-        (r .0, p .1, r .1);
-    added = λ x y.
-        let p = i .added x y in
-        let r = led (p .0) in
-        (r .0, p .1, r .1);
-    full = λ x y.
-        let p = i .full x y in
-        (p .1, subst (λ (k : List ℕ). MovesWorked n hash most k d a e) (p .1) (led (p .0) .1 refl) l c h x);
+    old = λ x.
+        let p = i .done x in
+        let r = led (inserted.Counted _ _) (p .0) in
+        (ap placedSays (r .0), p .1, r .1);
+    full = λ x.
+        let p = i .refused x in
+        let seven = due-some (capacity (n .qbits)) most (fingerprintOf n hash) l x .0 in
+        let worked = led (inserted.Refused _) (p .0) .1 seven in
+        (p .1, subst (λ (k : List ℕ). MovesWorked n hash most k d a e) (p .1) worked .right l c h x);
   }
 
   pub settled : Insert n hash most s z t → InsertSpare n hash most s d a t e
   settled i = record { early = early (i .early); damaged = λ c h. refused 6 (λ x. omega arith) (i .damaged c h); sound = λ c l h. places l c h (i .sound c l h) }
 
-  pub settled-quick : length e ≡ length d → InsertQuick n hash most s z t → InsertSpareQuick n hash most s d a t e
-  settled-quick x i = record { early = early (i .early); sound = λ c l h. places l c h (i .sound c l h); other = (i .other, x) }
+  pub settled-quick : InsertQuick n hash most s z t → InsertSpareQuick n hash most s d a t e
+  settled-quick i = record { early = early (i .early); sound = λ c l h. places l c h (i .sound c l h); other = leaves z w (i .other) }
+    where
+      leaves : (z : Inserted) → Settles n hash most t d z a e → InsertLeaves s z t → SpareLeaves n s d a t e
+      leaves (inserted.Counted m after) w i = record {
+        inside = i .0;
+        whole = λ _. w .1;
+        refused = λ k x. let y = ap placedSays (w .0) in let v : _≡_ {A = ℕ} 0 1 = cc in absurd (omega arith);
+      }
+      leaves (inserted.Refused k) w i = go (ℕ-discrete k 7)
+        where
+          same : t ≡ s
+          same = i .1 k refl
+
+          go : Dec (k ≡ 7) → SpareLeaves n s d a t e
+          go (yes y) =
+              let worked : MovesWorked n hash most s d a e = subst (λ (x : List ℕ). MovesWorked n hash most x d a e) same (w .1 y) in
+              record { inside = i .0; whole = worked .whole; refused = λ j x. (same, worked .refused j x) }
+          go (no y) = record { inside = i .0; whole = λ _. w .0 y .1; refused = λ _ _. (same, w .0 y .1) }

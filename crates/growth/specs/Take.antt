@@ -1,18 +1,20 @@
 -- What taking a list's fingerprints in comes to: each is inserted as by the rule of insert, cut to the width of the buffer that it goes to.
-use Prim.Native.Nat.{ℕ, zero, suc, _+_, _-_, _^_, _≤_, _<_, max}
+use Prim.Native.Nat.{ℕ, zero, suc, _+_, _-_, _^_, _≤_, _<_}
 use mathlib.Core.Path.{_≡_, refl, sym, ap, subst, _∙_}
 use mathlib.Core.List.{List, [], _∷_, map}
 use native.Mathlib.Omega.{arith}
 use native.Mathlib.Decide.{decLe, decLt}
 use lib.ListN.{length, getD, drop}
 use lib.Seq.{drop-cons, drop-length}
-use Rattle.theory.specs.tools.Choose.{choose, choose-by, choose-no}
+use Rattle.theory.specs.Answer.{Answer, values}
 use Rattle.theory.specs.Shape.{capacity, blocks, fingerprint}
-use Rattle.theory.specs.Holding.{copies, more}
+use Rattle.theory.specs.Holding.{copies}
+use Rattle.theory.specs.Changing.{allowed, upTo, insertDue, inserted}
 use Rattle.theory.specs.number.Bytes.{le}
 use Rattle.theory.specs.layout.Block.{tailAt}
 use Rattle.theory.specs.list.More.{more-length}
-use Rattle.theory.specs.list.UpTo.{upTo, addedUpTo, up-to-grows}
+use Rattle.theory.specs.list.Changed.{up-to-by, up-to-more, enough-due, room-due}
+use Rattle.theory.specs.list.UpTo.{addedUpTo, up-to-grows}
 use Rattle.layout.specs.declared.shape.Shape.{Shape}
 use Rattle.writing.specs.declared.insert.Insertion.{Insertion}
 use Rattle.writing.specs.declared.insert.Insertion.the-variants.{Enough, Added, Refused}
@@ -21,7 +23,7 @@ use Rattle.filter.specs.declared.listing.Step.{Step}
 use Rattle.filter.specs.declared.listing.Step.the-variants as step
 use Rattle.filter.specs.declared.listing.Stepped.{Stepped}
 use Rattle.filter.specs.Lookup.{Shows}
-use Rattle.writing.specs.Insert.{InsertsCore}
+use Rattle.writing.specs.Insert.{Tally, insertionSays, InsertsCore}
 use Rattle.filter.specs.Places.{stepped, placeOf, step-some, First, Steps}
 
 -- the last eight bytes stay
@@ -30,7 +32,7 @@ SameTail h s t = tailAt (h .rbits) (blocks (h .qbits)) (le t) ≡ tailAt (h .rbi
 
 -- what the destination holds after a list was taken into one that held a
 abbrev pub takenIn : Shape → ℕ → List ℕ → List ℕ → List ℕ
-takenIn h most a b = addedUpTo (max 1 most) a (map (fingerprint (h .qbits) (h .rbits)) b)
+takenIn h most a b = addedUpTo (allowed most) a (map (fingerprint (h .qbits) (h .rbits)) b)
 
 -- if both show a list, and none is added past capacity, then all are taken in; and on any buffer the last eight bytes stay
 pub record TakesIn (h : Shape) (s : List ℕ) (count : ℕ) (h′ : Shape) (d : List ℕ) (len most a : ℕ) (t : List ℕ) : Type 0 where
@@ -42,9 +44,7 @@ pub record TakesIn (h : Shape) (s : List ℕ) (count : ℕ) (h′ : Shape) (d : 
 
 -- ---- one insert
 abbrev pub heldAfter : ℕ → Insertion → ℕ
-heldAfter len (Enough c) = len
-heldAfter len (Added m) = len + 1
-heldAfter len (Refused k) = len
+heldAfter len z = values (record { answer = 0; len = len }) (insertionSays len z) .len
 
 pub record Puts (h : Shape) (len f most : ℕ) (s : List ℕ) (a : ℕ) (t : List ℕ) : Type 0 where
   pub answer : Insertion
@@ -85,21 +85,22 @@ module _ (h : Shape) (len most : ℕ) (s : List ℕ) where
 
 -- a buffer that shows l then shows l with f inserted, unless it is past capacity
 module _ (h : Shape) (len f most : ℕ) (l s t : List ℕ) (z : Insertion) (c : InsertsCore h len f most s z t) (w : Shows h s l) (e : len ≡ length l)
-    (room : copies (fingerprint (h .qbits) (h .rbits) f) l < max 1 most → len < capacity (h .qbits)) where
+    (room : copies (fingerprint (h .qbits) (h .rbits) f) l < allowed most → len < capacity (h .qbits)) where
   abbrev cut : ℕ
   cut = fingerprint (h .qbits) (h .rbits) f
 
-  pub put-shows : Shows h t (upTo (max 1 most) cut l) × (heldAfter len z ≡ length (upTo (max 1 most) cut l))
-  unfolding choose
-  put-shows = go (decLe (max 1 most) (copies cut l))
+  due : insertDue (capacity (h .qbits)) most cut l ≡ 0
+  due = go (decLe (allowed most) (copies cut l))
     where
-      go : (d : Dec (max 1 most ≤ copies cut l)) → Shows h t (choose d l (more cut l)) × (heldAfter len z ≡ length (choose d l (more cut l)))
-      go (yes y) =
-          let r = c .right l w (sym e) .enough y in
-          (subst (λ k. Shows h k l) (sym (r .1)) w, ap (heldAfter len) (r .0) ∙ e)
-      go (no y) =
-          let r = c .right l w (sym e) .added (omega arith) (room (omega arith)) in
-          (r .1, ap (heldAfter len) (r .0) ∙ omega (arith, more-length cut l))
+      go : Dec (allowed most ≤ copies cut l) → insertDue (capacity (h .qbits)) most cut l ≡ 0
+      go (yes y) = enough-due (capacity (h .qbits)) most cut l y
+      go (no y) = room-due (capacity (h .qbits)) most cut l (omega (arith, room (omega arith)))
+
+  pub put-shows : Shows h t (upTo (allowed most) cut l) × (heldAfter len z ≡ length (upTo (allowed most) cut l))
+  unfolding inserted
+  put-shows =
+      let r = c .right l w (sym e) .done due in
+      (r .1, ap (λ (a : Answer Tally). values (record { answer = 0; len = len }) a .len) (r .0))
 
 -- ---- all of them: after k steps what is held, with the rest taken in, is what it comes to
 pub record Taking (h : Shape) (b : List ℕ) (h′ : Shape) (most : ℕ) (whole : List ℕ) (left held : ℕ) (p : Place) (d : List ℕ) : Type 0 where
@@ -152,7 +153,7 @@ module _ (h : Shape) (s : List ℕ) (count : ℕ) (h′ : Shape) (d₀ : List �
         next : (l b : List ℕ) → Shows h s b → (length l < length (takenIn h′ most l b) → length (takenIn h′ most l b) ≤ capacity (h′ .qbits)) → length l ≤ held
             → Taking h b h′ most (takenIn h′ most l b) left held p d → (length l ≤ held′) × Taking h b h′ most (takenIn h′ most l b) (left - 1) held′ (st .place) t
         next l b w room low g =
-            let C = max 1 most in
+            let C = allowed most in
             let lt : g .k < length b = omega (arith, g .behind) in
             let f = getD b (g .k) 0 in
             let c = fingerprint (h′ .qbits) (h′ .rbits) f in
@@ -161,9 +162,9 @@ module _ (h : Shape) (s : List ℕ) (count : ℕ) (h′ : Shape) (d₀ : List �
             let on : takenIn h′ most (upTo C c (g .l)) (drop (suc (g .k)) b) ≡ takenIn h′ most l b = ap (takenIn h′ most (g .l)) (sym (drop-cons b (g .k) 0 lt)) ∙ g .rest in
             let up : length (upTo C c (g .l)) ≤ length (takenIn h′ most l b) = omega (arith, up-to-grows C (upTo C c (g .l)) (map (fingerprint (h′ .qbits) (h′ .rbits)) (drop (suc (g .k)) b)), ap length on) in
             let grows : length (g .l) ≤ length (upTo C c (g .l)) =
-            choose-by (λ (z : List ℕ). length (g .l) ≤ length z) (decLe C (copies c (g .l))) (λ _. omega arith) (λ _. omega (arith, more-length c (g .l))) in
+            up-to-by (λ (z : List ℕ). length (g .l) ≤ length z) C c (g .l) (λ _. omega arith) (λ _. omega (arith, more-length c (g .l))) in
             let free : copies c (g .l) < C → held < capacity (h′ .qbits) = λ y.
-            let one : upTo C c (g .l) ≡ more c (g .l) = choose-no (decLe C (copies c (g .l))) (g .l) (more c (g .l)) (λ x. omega arith) in
+            let one = up-to-more C c (g .l) y in
             omega (arith, room (omega (arith, up, ap length one, more-length c (g .l), g .many)), up, ap length one, more-length c (g .l), g .many) in
             let shown = put-shows h′ held f most (g .l) d t (pt .answer) (pt .core) (g .shows) (g .many) free in (
               omega (arith, pt .is, shown .1, grows, g .many),

@@ -7,7 +7,8 @@ use native.Mathlib.Omega.{arith}
 use native.Mathlib.Decide.{decLt}
 use lib.ListN.{length, length-map}
 use Rattle.theory.specs.tools.Choose.{choose-by}
-use Rattle.theory.specs.Shape.{capacity, fingerprint}
+use Rattle.theory.specs.Shape.{slots, capacity, fingerprint}
+use Rattle.theory.specs.layout.Sizes.{capacity-lt}
 use Rattle.theory.specs.list.Adding.{added-length, once-length}
 use Rattle.theory.specs.Joining.{taken, takenDue, addedOnce}
 use Rattle.layout.specs.declared.shape.Shape.{Shape}
@@ -32,6 +33,16 @@ due-passed : (q : ℕ) (a l : List ℕ) → length a + max 1 (suc (capacity q) -
 unfolding takenDue
 due-passed q a l h =
     choose-by (λ z. 7 ≡ z) (decLt (length a) (length l)) (λ u. choose-by (λ z. 7 ≡ z) (decLt (capacity q) (length l)) (λ _. refl) (λ v. absurd (omega arith))) (λ u. absurd (omega arith))
+
+-- where it is not due, a slot stays empty
+pub none-few : (q : ℕ) → 6 ≤ q → (a l : List ℕ) → takenDue q a l ≡ 0 → length a < slots q → length l < slots q
+unfolding takenDue
+none-few q low a l e few = go (decLt (length a) (length l)) (decLt (capacity q) (length l))
+  where
+    go : Dec (length a < length l) → Dec (capacity q < length l) → length l < slots q
+    go (no y) z = omega arith
+    go (yes y) (no z) = omega (arith, capacity-lt q low)
+    go (yes y) (yes z) = absurd (omega (arith, due-passed q a l (omega arith)))
 
 taken-most : (keep q r : ℕ) (a b : List ℕ) → length (taken keep q r a b) ≤ length a + length b
 unfolding taken

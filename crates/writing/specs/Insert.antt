@@ -155,7 +155,7 @@ module _ (h : Shape) (low : 6 ≤ h .qbits) (s : List ℕ) (len hash most x rem 
                 let few = fewer-held l w in
                 let held = more-held cap most f l few in
                 record {
-                  refused = λ z. absurd (omega (arith, room-due cap most f l few (omega arith)));
+                  refused = λ z. absurd (omega (arith, room-due cap most f l (omega arith)));
                   done = λ _. (
                     same-tally (tallied l w ∙ sym (more-answer cap most f l few)) (omega (arith, ap length held, more-length f l)),
                     rw held (shows l w n),

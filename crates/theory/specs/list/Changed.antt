@@ -25,6 +25,11 @@ unfolding upTo
 up-to-more c f l h = choose-no (decLe c (copies f l)) l (more f l) (λ z. omega arith)
 
 -- ---- insert
+-- as many as are asked for are allowed
+pub allowed-high : (most : ℕ) → most ≤ allowed most
+unfolding allowed
+allowed-high most = omega arith
+
 module _ (capacity most f : ℕ) (l : List ℕ) where
   -- enough copies are held
   module _ (h : allowed most ≤ copies f l) where
@@ -49,9 +54,6 @@ module _ (capacity most f : ℕ) (l : List ℕ) where
     pub full-due : capacity ≤ length l → insertDue capacity most f l ≡ 7
     full-due b = asked ∙ choose-yes (decLe capacity (length l)) 7 0 b
 
-    pub room-due : length l < capacity → insertDue capacity most f l ≡ 0
-    room-due b = asked ∙ choose-no (decLe capacity (length l)) 7 0 (λ z. omega arith)
-
     pub more-answer : insertAnswer most f l ≡ copies f l
     unfolding insertAnswer
     more-answer = omega arith
@@ -59,6 +61,12 @@ module _ (capacity most f : ℕ) (l : List ℕ) where
     pub more-held : inserted most f l ≡ more f l
     unfolding inserted
     more-held = up-to-more (allowed most) f l h
+
+  -- there is room
+  pub room-due : length l < capacity → insertDue capacity most f l ≡ 0
+  unfolding insertDue
+  room-due b =
+      choose-by (λ z. z ≡ 0) (decLe (allowed most) (copies f l)) (λ _. refl) (λ _. choose-no (decLe capacity (length l)) 7 0 (λ z. omega arith))
 
   -- where 7 is not due, enough copies are held or there is room
   pub due-none : insertDue capacity most f l ≡ 0 → (inserted most f l ≡ l) ⊎ ((inserted most f l ≡ more f l) × (length l < capacity))
@@ -76,7 +84,7 @@ module _ (capacity most f : ℕ) (l : List ℕ) where
       go : Dec (allowed most ≤ copies f l) → Dec (capacity ≤ length l) → (insertDue capacity most f l ≡ 7) × (copies f l < allowed most) × (capacity ≤ length l)
       go (yes h) d = absurd (omega (arith, enough-due h))
       go (no h) (yes b) = (full-due (omega arith) b, omega arith, b)
-      go (no h) (no b) = absurd (omega (arith, room-due (omega arith) (omega arith)))
+      go (no h) (no b) = absurd (omega (arith, room-due (omega arith)))
 
 -- ---- remove
 pub absent-answer : (f : ℕ) (l : List ℕ) → copies f l ≡ 0 → removeAnswer f l ≡ 0

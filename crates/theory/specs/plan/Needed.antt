@@ -37,7 +37,7 @@ width-end q c h =
     rw e
 
 -- ---- what it finds
-width-low : (k q c : ℕ) → q ≤ widthFrom k q c
+pub width-low : (k q c : ℕ) → q ≤ widthFrom k q c
 unfolding widthFrom
 width-low zero q c = omega arith
 width-low (suc k) q c = choose-by (λ z. q ≤ z) (decLe c (capacity q)) (λ _. omega arith) (λ _. omega (arith, width-low k (suc q) c))

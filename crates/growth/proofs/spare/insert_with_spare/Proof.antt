@@ -22,7 +22,7 @@ returns c =
     let e = c .before .before in
     let i = e .before .before .before .before .before in
     let a = i .before .before .before .before .args in
-    settled (a .n) (a .hash) (a .max-count) (now (a .buf)) (now (a .spare)) _ _ _ _ (e .settle .ensures) (i .insert-fingerprint-counting .ensures)
+    settled (a .n) (a .hash) (a .max-count) (now (a .buf)) (now (a .spare)) (i .insert-fingerprint-counting .result) _ (e .settle .result) _ (e .settle .ensures) (i .insert-fingerprint-counting .ensures)
 
 pub insert-with-spare-spec : {M : Type 1} → statement M
 insert-with-spare-spec =

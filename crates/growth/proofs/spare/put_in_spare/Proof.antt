@@ -16,7 +16,7 @@ Put c z =
 done : (c : tie.After-slice-known2) → Put c (c .before .before .insert-fingerprint-counting-quick .result)
 done c =
     let a = c .before .before .before .before .before .args in
-    put-in-spare (a .n) (a .hash) (a .max-count) (now (a .spare)) _ _ (c .before .before .insert-fingerprint-counting-quick .ensures)
+    put-in-spare (a .n) (a .hash) (a .max-count) (now (a .spare)) (c .before .before .insert-fingerprint-counting-quick .result) _ (c .before .before .insert-fingerprint-counting-quick .ensures)
 
 insert-fingerprint-counting-quick-requires : tie.Need-insert-fingerprint-counting-quick-requires
 insert-fingerprint-counting-quick-requires c κs = search needs
