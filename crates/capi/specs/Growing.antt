@@ -2,36 +2,32 @@
 use Prim.Native.Nat.{ℕ}
 use mathlib.Core.Path.{_≡_}
 use mathlib.Core.List.{List}
+use Rattle.theory.specs.Answer.{number, values}
 use Rattle.layout.specs.declared.numbers.Numbers.{Numbers}
 use Rattle.growth.specs.declared.rebuild.Rebuilt.{Rebuilt}
-use Rattle.growth.specs.declared.rebuild.Rebuilt.the-variants as rebuilt
 use Rattle.growth.specs.declared.spare.Placed.{Placed}
-use Rattle.growth.specs.declared.spare.Placed.the-variants as placed
+use Rattle.growth.specs.Says.{rebuiltSays, placedIn, placedSays}
 use Rattle.growth.specs.Rebuilding.{Grows}
 use Rattle.growth.specs.Spare.{InsertSpare, InsertSpareQuick}
+use Rattle.capi.specs.Shown.{Shown}
 use Rattle.capi.specs.declared.planning.Changed.{Changed}
 use Rattle.capi.specs.declared.growing.SpareAnswer.{SpareAnswer}
 
-abbrev pub grownOf : Numbers → Rebuilt → Changed
-grownOf n (rebuilt.Filter after) = record { number = 0; answer = 0; numbers = after }
-grownOf n (rebuilt.Refused k) = record { number = k; answer = 0; numbers = n }
+-- the record of what was rebuilt, or the one given; the answer is always 0
+abbrev pub rebuiltOf : Numbers → Rebuilt → Changed
+rebuiltOf n a = record { number = number (rebuiltSays a); answer = 0; numbers = values n (rebuiltSays a) }
 
-pub record GrowOutcome (n : Numbers) (s d : List ℕ) (a : Changed) (t : List ℕ) : Type 0 where
-  pub answer : Rebuilt
-  pub right : Grows n s d answer t
-  pub is : a ≡ grownOf n answer
+abbrev pub GrowOutcome : Numbers → List ℕ → List ℕ → Changed → List ℕ → Type 0
+GrowOutcome n s d a t = Shown (λ answer. Grows n s d answer t) (rebuiltOf n) a
 
+-- what an insert with a spare says; where it is refused, zeros and the record given
 abbrev pub placedOf : Numbers → Placed → SpareAnswer
-placedOf n (placed.InOld m after) = record { number = 0; answer = m; «in_spare» = 0; numbers = after }
-placedOf n (placed.InSpare m after) = record { number = 0; answer = m; «in_spare» = 1; numbers = after }
-placedOf n (placed.Refused k) = record { number = k; answer = 0; «in_spare» = 0; numbers = n }
+placedOf n a =
+    let v = values (placedIn 0 0 n) (placedSays a) in
+    record { number = number (placedSays a); answer = v .answer; «in_spare» = v .in-spare; numbers = v .numbers }
 
-pub record InsertSpareOutcome (n : Numbers) (hash most : ℕ) (s d : List ℕ) (a : SpareAnswer) (t e : List ℕ) : Type 0 where
-  pub answer : Placed
-  pub right : InsertSpare n hash most s d answer t e
-  pub is : a ≡ placedOf n answer
+abbrev pub InsertSpareOutcome : Numbers → ℕ → ℕ → List ℕ → List ℕ → SpareAnswer → List ℕ → List ℕ → Type 0
+InsertSpareOutcome n hash most s d a t e = Shown (λ answer. InsertSpare n hash most s d answer t e) (placedOf n) a
 
-pub record InsertSpareQuickOutcome (n : Numbers) (hash most : ℕ) (s d : List ℕ) (a : SpareAnswer) (t e : List ℕ) : Type 0 where
-  pub answer : Placed
-  pub right : InsertSpareQuick n hash most s d answer t e
-  pub is : a ≡ placedOf n answer
+abbrev pub InsertSpareQuickOutcome : Numbers → ℕ → ℕ → List ℕ → List ℕ → SpareAnswer → List ℕ → List ℕ → Type 0
+InsertSpareQuickOutcome n hash most s d a t e = Shown (λ answer. InsertSpareQuick n hash most s d answer t e) (placedOf n) a

@@ -3,4 +3,5 @@ pub mod Listing
 pub mod Merging
 pub mod Planning
 pub mod Reading
+pub mod Shown
 pub mod Writing

@@ -2,33 +2,31 @@
 use Prim.Native.Nat.{ℕ}
 use mathlib.Core.Path.{_≡_}
 use mathlib.Core.List.{List}
+use Rattle.theory.specs.Answer.{number, values, noNext}
 use Rattle.layout.specs.declared.numbers.Numbers.{Numbers}
 use Rattle.filter.specs.declared.listing.Place.{Place}
 use Rattle.filter.specs.declared.listing.Begun.{Begun}
-use Rattle.filter.specs.declared.listing.Begun.the-variants as begun
 use Rattle.filter.specs.declared.listing.Step.{Step}
-use Rattle.filter.specs.declared.listing.Step.the-variants as step
 use Rattle.filter.specs.declared.listing.Stepped.{Stepped}
+use Rattle.filter.specs.Says.{begunSays, stepSays}
 use Rattle.filter.specs.Places.{nowhere}
 use Rattle.filter.specs.Listing.{Begins, Listed}
+use Rattle.capi.specs.Shown.{Shown}
 use Rattle.capi.specs.declared.listing.First.{First}
 use Rattle.capi.specs.declared.listing.Next.{Next}
 
+-- the first place, and zeros where it is refused
 abbrev pub begunOf : Begun → First
-begunOf (begun.At p) = record { number = 0; place = p }
-begunOf (begun.Refused k) = record { number = k; place = nowhere }
+begunOf a = record { number = number (begunSays a); place = values nowhere (begunSays a) }
 
-pub record BeginOutcome (n : Numbers) (s : List ℕ) (r : First) : Type 0 where
-  pub answer : Begun
-  pub right : Begins n s answer
-  pub is : r ≡ begunOf answer
+abbrev pub BeginOutcome : Numbers → List ℕ → First → Type 0
+BeginOutcome n s r = Shown (Begins n s) begunOf r
 
+-- what a step says, with zeros where it is refused, and the place after it
 abbrev pub nextOf : Place → Step → Next
-nextOf p (step.Fingerprint f) = record { number = 0; found = 1; fingerprint = f; place = p }
-nextOf p step.Done = record { number = 0; found = 0; fingerprint = 0; place = p }
-nextOf p (step.Refused k) = record { number = k; found = 0; fingerprint = 0; place = p }
+nextOf p a =
+    let v = values noNext (stepSays a) in
+    record { number = number (stepSays a); found = v .found; fingerprint = v .fingerprint; place = p }
 
-pub record StepOutcome (n : Numbers) (s : List ℕ) (p : Place) (r : Next) : Type 0 where
-  pub answer : Stepped
-  pub right : Listed n s p answer
-  pub is : r ≡ nextOf (answer .place) (answer .step)
+abbrev pub StepOutcome : Numbers → List ℕ → Place → Next → Type 0
+StepOutcome n s p r = Shown (Listed n s p) (λ answer. nextOf (answer .place) (answer .step)) r

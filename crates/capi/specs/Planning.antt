@@ -23,6 +23,7 @@ use Rattle.layout.specs.declared.fresh.Made.the-variants as made
 use Rattle.layout.specs.Plans.{NeededAs, SpecifiedAs, PlannedAs}
 use Rattle.layout.specs.Shapes.{ShapedAs}
 use Rattle.layout.specs.Fresh.{MadeAs}
+use Rattle.capi.specs.Shown.{Shown}
 use Rattle.capi.specs.declared.planning.Outcome.{Outcome}
 use Rattle.capi.specs.declared.planning.Specs.{Specs}
 use Rattle.capi.specs.declared.planning.Plan.{Plan}
@@ -33,54 +34,42 @@ abbrev pub positionOf : Found → ℕ
 positionOf (found.At p) = p
 positionOf found.Nothing = 64
 
-pub record PositionOf (x n : ℕ) (r : ℕ) : Type 0 where
-  pub answer : Found
-  pub right : Selected x n answer
-  pub is : r ≡ positionOf answer
+abbrev pub PositionOf : ℕ → ℕ → ℕ → Type 0
+PositionOf x n r = Shown (Selected x n) positionOf r
 
 -- the slots of a width, or a number
 abbrev pub neededOf : Needed → Outcome
 neededOf (needed.Qbits q) = record { number = 0; value = 2 ^ q }
 neededOf (needed.Refused k) = record { number = k; value = 0 }
 
-pub record NeededOutcome (c : ℕ) (r : Outcome) : Type 0 where
-  pub answer : Needed
-  pub right : NeededAs c answer
-  pub is : r ≡ neededOf answer
+abbrev pub NeededOutcome : ℕ → Outcome → Type 0
+NeededOutcome c r = Shown (NeededAs c) neededOf r
 
 abbrev pub specsOf : Specified → Specs
 specsOf (specified.Specs s) = record { number = 0; «max_capacity» = s .«max_capacity»; «max_error_ratio» = s .«max_error_ratio»; «bits_per_item» = s .«bits_per_item»; «memory_bytes_min» = s .«memory_bytes_min»; «memory_bytes_max» = s .«memory_bytes_max»; «fingerprint_bits» = s .«fingerprint_bits» }
 specsOf (specified.Refused k) = record { number = k; «max_capacity» = 0; «max_error_ratio» = fin false 0 (pos 0); «bits_per_item» = fin false 0 (pos 0); «memory_bytes_min» = 0; «memory_bytes_max» = 0; «fingerprint_bits» = 0 }
 
-pub record SpecsOutcome (c : ℕ) (rate : Float) (r : Specs) : Type 0 where
-  pub answer : Specified
-  pub right : SpecifiedAs c rate answer
-  pub is : r ≡ specsOf answer
+abbrev pub SpecsOutcome : ℕ → Float → Specs → Type 0
+SpecsOutcome c rate r = Shown (SpecifiedAs c rate) specsOf r
 
 abbrev pub planOf : Planned → Plan
 planOf (planned.Widths n) = record { number = 0; qbits = n .qbits; rbits = n .rbits; «max_qbits» = n .«max_qbits» }
 planOf (planned.Refused k) = record { number = k; qbits = 0; rbits = 0; «max_qbits» = 0 }
 
-pub record PlanOutcome (initial most : ℕ) (rate : Float) (r : Plan) : Type 0 where
-  pub answer : Planned
-  pub right : PlannedAs initial most rate answer
-  pub is : r ≡ planOf answer
+abbrev pub PlanOutcome : ℕ → ℕ → Float → Plan → Type 0
+PlanOutcome initial most rate r = Shown (PlannedAs initial most rate) planOf r
 
 abbrev pub lengthOf : Shaped → Outcome
 lengthOf (shaped.Of h) = record { number = 0; value = bytes (h .qbits) (h .rbits) }
 lengthOf (shaped.Refused k) = record { number = k; value = 0 }
 
-pub record LengthOutcome (q r : ℕ) (a : Outcome) : Type 0 where
-  pub answer : Shaped
-  pub right : ShapedAs q r answer
-  pub is : a ≡ lengthOf answer
+abbrev pub LengthOutcome : ℕ → ℕ → Outcome → Type 0
+LengthOutcome q r a = Shown (ShapedAs q r) lengthOf a
 
 -- a refusal gives back the widths asked, with len 0
 abbrev pub freshOf : ℕ → ℕ → ℕ → Made → Changed
 freshOf q r mx (made.Fresh n) = record { number = 0; answer = 0; numbers = n }
 freshOf q r mx (made.Refused k) = record { number = k; answer = 0; numbers = record { len = 0; qbits = q; rbits = r; «max_qbits» = mx } }
 
-pub record FreshOutcome (s : List ℕ) (q r mx : ℕ) (a : Changed) (t : List ℕ) : Type 0 where
-  pub answer : Made
-  pub right : MadeAs s q r mx answer t
-  pub is : a ≡ freshOf q r mx answer
+abbrev pub FreshOutcome : List ℕ → ℕ → ℕ → ℕ → Changed → List ℕ → Type 0
+FreshOutcome s q r mx a t = Shown (λ answer. MadeAs s q r mx answer t) (freshOf q r mx) a

@@ -2,15 +2,16 @@
 use Prim.Native.Nat.{ℕ}
 use mathlib.Core.Path.{_≡_}
 use mathlib.Core.List.{List}
+use Rattle.theory.specs.Answer.{number, values, notLooked}
 use Rattle.layout.specs.declared.numbers.Numbers.{Numbers}
 use Rattle.layout.specs.declared.check.Verdict.{Verdict}
 use Rattle.layout.specs.declared.check.Verdict.the-variants as verdict
 use Rattle.filter.specs.declared.contains.Lookup.{Lookup}
-use Rattle.filter.specs.declared.contains.Lookup.the-variants as lookup
 use Rattle.filter.specs.declared.contains.Counting.{Counting}
-use Rattle.filter.specs.declared.contains.Counting.the-variants as counting
 use Rattle.layout.specs.Verdicts.{Judged}
+use Rattle.filter.specs.Says.{lookupSays, countingSays}
 use Rattle.filter.specs.Asking.{Contains, ContainsQuick, Count, CountQuick}
+use Rattle.capi.specs.Shown.{Shown}
 use Rattle.capi.specs.declared.planning.Outcome.{Outcome}
 use Rattle.capi.specs.declared.reading.Looked.{Looked}
 
@@ -19,36 +20,26 @@ abbrev pub verdictOf : Verdict → ℕ
 verdictOf verdict.Sound = 0
 verdictOf (verdict.Refused k) = k
 
-pub record CheckOutcome (n : Numbers) (s : List ℕ) (r : ℕ) : Type 0 where
-  pub answer : Verdict
-  pub right : Judged n s answer
-  pub is : r ≡ verdictOf answer
+abbrev pub CheckOutcome : Numbers → List ℕ → ℕ → Type 0
+CheckOutcome n s r = Shown (Judged n s) verdictOf r
 
+-- what a lookup says, and zeros where it is refused
 abbrev pub lookedOf : Lookup → Looked
-lookedOf (lookup.Held k) = record { number = 0; held = 1; compared = k }
-lookedOf (lookup.Absent k) = record { number = 0; held = 0; compared = k }
-lookedOf (lookup.Refused k) = record { number = k; held = 0; compared = 0 }
+lookedOf a =
+    let v = values notLooked (lookupSays a) in
+    record { number = number (lookupSays a); held = v .held; compared = v .compared }
 
-pub record ContainsOutcome (n : Numbers) (s : List ℕ) (hash : ℕ) (r : Looked) : Type 0 where
-  pub answer : Lookup
-  pub right : Contains n s hash answer
-  pub is : r ≡ lookedOf answer
+abbrev pub ContainsOutcome : Numbers → List ℕ → ℕ → Looked → Type 0
+ContainsOutcome n s hash r = Shown (Contains n s hash) lookedOf r
 
-pub record ContainsQuickOutcome (n : Numbers) (s : List ℕ) (hash : ℕ) (r : Looked) : Type 0 where
-  pub answer : Lookup
-  pub right : ContainsQuick n s hash answer
-  pub is : r ≡ lookedOf answer
+abbrev pub ContainsQuickOutcome : Numbers → List ℕ → ℕ → Looked → Type 0
+ContainsQuickOutcome n s hash r = Shown (ContainsQuick n s hash) lookedOf r
 
 abbrev pub countedOf : Counting → Outcome
-countedOf (counting.Copies m) = record { number = 0; value = m }
-countedOf (counting.Refused k) = record { number = k; value = 0 }
+countedOf a = record { number = number (countingSays a); value = values 0 (countingSays a) }
 
-pub record CountOutcome (n : Numbers) (s : List ℕ) (hash : ℕ) (r : Outcome) : Type 0 where
-  pub answer : Counting
-  pub right : Count n s hash answer
-  pub is : r ≡ countedOf answer
+abbrev pub CountOutcome : Numbers → List ℕ → ℕ → Outcome → Type 0
+CountOutcome n s hash r = Shown (Count n s hash) countedOf r
 
-pub record CountQuickOutcome (n : Numbers) (s : List ℕ) (hash : ℕ) (r : Outcome) : Type 0 where
-  pub answer : Counting
-  pub right : CountQuick n s hash answer
-  pub is : r ≡ countedOf answer
+abbrev pub CountQuickOutcome : Numbers → List ℕ → ℕ → Outcome → Type 0
+CountQuickOutcome n s hash r = Shown (CountQuick n s hash) countedOf r

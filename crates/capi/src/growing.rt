@@ -1,6 +1,6 @@
 // Growth, and insert with a spare.
 ghost use mathlib.Core.Path.{_≡_};
-ghost use Rattle.capi.specs.Growing.{grownOf, GrowOutcome, placedOf, InsertSpareOutcome, InsertSpareQuickOutcome};
+ghost use Rattle.capi.specs.Growing.{rebuiltOf, GrowOutcome, placedOf, InsertSpareOutcome, InsertSpareQuickOutcome};
 use crate::planning::Changed;
 use growth::rebuild::Rebuilt;
 use growth::spare::Placed;
@@ -15,8 +15,9 @@ pub struct SpareAnswer {
     pub numbers: Numbers,
 }
 
-fn as_grown(rebuilt: Rebuilt, n: Numbers) -> Changed
-    ensures { λ r. ⌜ r ≡ grownOf n rebuilt ⌝ }
+// The record of what was rebuilt, or the number with the record given.
+pub fn as_rebuilt(rebuilt: Rebuilt, n: Numbers) -> Changed
+    ensures { λ r. ⌜ r ≡ rebuiltOf n rebuilt ⌝ }
 {
     match rebuilt {
         Rebuilt::Filter(after) => Changed {
@@ -37,7 +38,7 @@ fn as_grown(rebuilt: Rebuilt, n: Numbers) -> Changed
 pub extern "C" fn strumblay_grow(buf: &[u8], n: Numbers, dest: &mut [u8]) -> Changed
     ensures { λ r. ⌜ GrowOutcome n (now (buf .entry)) (now (dest .entry)) r (now (dest .exit)) ⌝ }
 {
-    as_grown(growth::rebuild::rebuild_grown(buf, n, dest), n)
+    as_rebuilt(growth::rebuild::rebuild_grown(buf, n, dest), n)
 }
 
 fn as_placed(placed: Placed, n: Numbers) -> SpareAnswer

@@ -1,26 +1,8 @@
 // Merge.
-ghost use mathlib.Core.Path.{_≡_};
-ghost use Rattle.capi.specs.Merging.{rebuiltOf, MergeOutcome};
+ghost use Rattle.capi.specs.Merging.{MergeOutcome};
+use crate::growing::as_rebuilt;
 use crate::planning::Changed;
-use growth::rebuild::Rebuilt;
 use layout::numbers::Numbers;
-
-pub fn as_rebuilt(rebuilt: Rebuilt, n: Numbers) -> Changed
-    ensures { λ r. ⌜ r ≡ rebuiltOf n rebuilt ⌝ }
-{
-    match rebuilt {
-        Rebuilt::Filter(after) => Changed {
-            number: 0,
-            answer: 0,
-            numbers: after,
-        },
-        Rebuilt::Refused(k) => Changed {
-            number: k as u64,
-            answer: 0,
-            numbers: n,
-        },
-    }
-}
 
 #[no_mangle]
 pub extern "C" fn strumblay_merge(

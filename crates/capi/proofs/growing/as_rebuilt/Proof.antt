@@ -1,9 +1,9 @@
--- `capi::merging::as_rebuilt`, case by case. Assumes nothing.
+-- `capi::growing::as_rebuilt`, case by case. Assumes nothing.
 use mathlib.Core.Path.{ap, sym, refl, _∙_, subst}
-use Rattle.capi.specs.Merging.{rebuiltOf}
+use Rattle.capi.specs.Growing.{rebuiltOf}
 use borrow.Author.Needs.{needs}
-use Rattle.capi.proofs.merging.as_rebuilt.Statement.{statement}
-use Rattle.capi.proofs.merging.as_rebuilt.Tie as tie
+use Rattle.capi.proofs.growing.as_rebuilt.Statement.{statement}
+use Rattle.capi.proofs.growing.as_rebuilt.Tie as tie
 
 enum-known-rebuilt : tie.Need-enum-known-rebuilt
 enum-known-rebuilt c = search needs
