@@ -1,6 +1,7 @@
 pub mod Growing
 pub mod Listing
 pub mod Merging
+pub mod Pinned
 pub mod Planning
 pub mod Reading
 pub mod Shown
