@@ -5,7 +5,9 @@
  * a buffer that a call writes must not overlap another one lent to it.
  *
  * Every answer but select's begins with a number: 0, or why the call was refused. A refused call
- * has changed nothing, its other values are 0, and its record is the one given.
+ * has changed nothing, its other values are 0, and its record is the one given (of a fresh filter,
+ * the widths asked for and len 0). One exception: a quick remove that answers 6 may have altered
+ * blocks.
  *
  *    1  qbits outside 6 to 59, rbits 0, or their sum above 64
  *    2  the buffer's length is not that of the widths
@@ -20,9 +22,10 @@
  *   11  planned maximum below the initial capacity
  *   12  the destination has the wrong length
  *
- * The lowest of 1 to 6 is given first. A call checks 1 to 6 before it works. One that ends in
- * `_quick`, and a step of a listing, asks 1 to 5: on a buffer that is not sound it ends and stays
- * inside, but its answer, record and blocks may be anything. */
+ * The lowest of 1 to 6 is given first, then 8, 7, 12; planning gives 11, 10, 9. A call checks 1 to 6
+ * before it works. One that ends in `_quick`, and a step of a listing, asks 1 to 5: on a buffer that
+ * is not sound it ends and stays inside, but its answer and record may be anything, 6 included, and
+ * a quick writer may alter the blocks; the last eight bytes stay. */
 #ifndef STRUMBLAY_H
 #define STRUMBLAY_H
 
@@ -150,14 +153,16 @@ strumblay_next strumblay_list_step(const uint8_t *buf, size_t buf_len, strumblay
 
 /* Insert and remove. */
 
-/* One copy more if fewer than max(1, max_count) are held; answers how many were. Refuses 7 where
- * a copy is due and the filter is at its capacity. */
+/* One copy more if fewer than max(1, max_count) are held. Answers the smaller of the two, the copies
+ * held before and max(1, max_count). Refuses 7 where a copy is due and the filter is at its capacity.
+ * A quick insert that is refused has changed nothing, on any buffer. */
 strumblay_changed strumblay_insert(uint8_t *buf, size_t buf_len, strumblay_numbers n,
                                    uint64_t hash, uint64_t max_count);
 strumblay_changed strumblay_insert_quick(uint8_t *buf, size_t buf_len, strumblay_numbers n,
                                          uint64_t hash, uint64_t max_count);
 
-/* One copy fewer: answers 1, or 0 if none is held. */
+/* One copy fewer: answers 1, or 0 if none is held. A quick remove may answer 6 on a buffer that is
+ * not sound, and may have altered its blocks by then. */
 strumblay_changed strumblay_remove(uint8_t *buf, size_t buf_len, strumblay_numbers n,
                                    uint64_t hash);
 strumblay_changed strumblay_remove_quick(uint8_t *buf, size_t buf_len, strumblay_numbers n,
@@ -170,8 +175,16 @@ strumblay_changed strumblay_remove_quick(uint8_t *buf, size_t buf_len, strumblay
 strumblay_changed strumblay_grow(const uint8_t *buf, size_t buf_len, strumblay_numbers n,
                                  uint8_t *dest, size_t dest_len);
 
-/* Both holdings together, in the widths of the first; answers 0. keep_duplicates is 1 to add the
- * copies, 0 to hold each once. Refuses the other's 1 to 6 after its own, then 8, 7. */
+/* Both holdings together; answers 0. The result keeps the first's qbits + rbits and max_qbits.
+ *
+ * Fingerprints of equal width: with keep_duplicates copies add up, with 0 each is held once, so the
+ * first's own repeats go too. qbits is the smallest, from the first's on, that has room: it may grow,
+ * up to max_qbits.
+ *
+ * The other's wider: they are cut to the first's width. With keep_duplicates all are added, with 0
+ * only absent ones, once each, and the first's repeats stay. qbits stays.
+ *
+ * Refuses the other's 1 to 6 after its own, then 8, then 7 where there is no room. */
 strumblay_changed strumblay_merge(const uint8_t *buf, size_t buf_len, strumblay_numbers n,
                                   const uint8_t *other, size_t other_len,
                                   strumblay_numbers other_n, uint64_t keep_duplicates,
@@ -186,7 +199,9 @@ typedef struct {
 } strumblay_spare_answer;
 
 /* Insert that, where it would refuse 7, grows into the spare and inserts there; the old buffer is
- * then as it was. */
+ * then as it was. Refuses 7 where it may not grow, then 12 where the spare's length is not that of
+ * qbits + 1; a spare that is not needed is not looked at. On a buffer that is not sound the quick
+ * form leaves the spare as it was. */
 strumblay_spare_answer strumblay_insert_spare(uint8_t *buf, size_t buf_len, strumblay_numbers n,
                                               uint64_t hash, uint64_t max_count,
                                               uint8_t *spare, size_t spare_len);

@@ -158,8 +158,9 @@ impl<B: AsMut<[u8]>> Filter<B> {
         Error::unless(made.number, Filter { buffer, numbers: made.numbers })
     }
 
-    /// One copy more if fewer than `max_count` are held, or if none is; answers how many were.
-    /// Checked: 1 to 6, then 7 where a copy is due and the filter is at its capacity.
+    /// One copy more if fewer than max(1, `max_count`) are held; answers the smaller of the two,
+    /// the copies held before and max(1, `max_count`). Checked: 1 to 6, then 7 where a copy is due
+    /// and the filter is at its capacity.
     ///
     /// ```
     /// # use strumblay::{Error, Filter, Widths};
@@ -175,7 +176,7 @@ impl<B: AsMut<[u8]>> Filter<B> {
         self.take(changed)
     }
 
-    /// As [`insert`](Self::insert), quick: 1 to 5, 7.
+    /// As [`insert`](Self::insert), quick: 1 to 5, 7. A refusal has changed nothing, on any buffer.
     pub fn insert_quick(&mut self, hash: u64, max_count: u64) -> Result<u64> {
         let changed = ffi::insert_quick(self.buffer.as_mut(), self.numbers, hash, max_count);
         self.take(changed)
@@ -196,7 +197,8 @@ impl<B: AsMut<[u8]>> Filter<B> {
         self.take(changed).map(|removed| removed == 1)
     }
 
-    /// As [`remove`](Self::remove), quick: 1 to 5.
+    /// As [`remove`](Self::remove), quick: 1 to 5. On a buffer that is not sound it may give 6,
+    /// and may have altered blocks by then.
     pub fn remove_quick(&mut self, hash: u64) -> Result<bool> {
         let changed = ffi::remove_quick(self.buffer.as_mut(), self.numbers, hash);
         self.take(changed).map(|removed| removed == 1)

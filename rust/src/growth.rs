@@ -14,11 +14,13 @@ impl<B: AsRef<[u8]>> Filter<B> {
         Error::unless(got.number, Filter { buffer: dest, numbers: got.numbers })
     }
 
-    /// Both holdings in this one's widths, written to `dest`.
+    /// Both holdings, written to `dest`; the result keeps this one's qbits + rbits and max_qbits.
     ///
-    /// With duplicates, copies add up. Without, and fingerprints of equal width, each is held
-    /// once; if the other's are wider they are cut, and those absent are added once. Checked: this
-    /// one's 1 to 6, the other's, then 8, 7, and 12 for the length of `dest`.
+    /// Fingerprints of equal width: with duplicates, copies add up; without, each is held once, so
+    /// this one's own repeats go too. qbits may grow, to the smallest with room, up to max_qbits.
+    /// The other's wider: they are cut to this one's width; with duplicates all are added, without
+    /// only absent ones, once each, and this one's repeats stay. qbits stays. Checked: this one's 1
+    /// to 6, the other's, then 8, 7 where there is no room, and 12 for the length of `dest`.
     pub fn merge_into<C: AsRef<[u8]>, D: AsMut<[u8]>>(
         &self,
         other: &Filter<C>,
@@ -107,7 +109,8 @@ impl<B: AsMut<[u8]>> Filter<B> {
         self.take_spare(got, spare)
     }
 
-    /// As [`insert_spare`](Self::insert_spare), quick: 1 to 5, 7, 12.
+    /// As [`insert_spare`](Self::insert_spare), quick: 1 to 5, 7, 12. On a buffer that is not sound
+    /// the spare stays as it was; a refusal has changed neither.
     pub fn insert_spare_quick(&mut self, hash: u64, max_count: u64, spare: &mut B) -> Result<u64> {
         let (old, new) = (self.buffer.as_mut(), spare.as_mut());
         let got = ffi::insert_spare_quick(old, self.numbers, hash, max_count, new);

@@ -26,8 +26,9 @@
 //! A call checks the whole filter, [`Error`] numbers 1 to 6, and then works. A call that ends in
 //! `_quick` asks 1 to 5, which takes no time, and trusts the buffer: after one [`Filter::check`]
 //! it gives the same answers. On a buffer that is not sound it ends and touches nothing else, but
-//! its answer and what it writes in the buffer may be anything. No call panics, though one that
-//! makes a buffer of its own needs the memory; a refused one has changed nothing.
+//! its answer, 6 included, its record and what it writes in the buffer's blocks may be anything. No
+//! call panics, though one that makes a buffer of its own needs the memory. A refused call has
+//! changed nothing; only a quick remove that answers 6 may have altered blocks.
 //!
 //! # Buffers
 //! [`Filter<B>`](Filter) works over a `Vec<u8>` of its own, over `&mut [u8]`, and for reading over
