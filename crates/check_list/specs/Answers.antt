@@ -10,7 +10,7 @@ use lib.Pow.{pow-mono}
 use lib.Seq.{take-all}
 use Rattle.theory.specs.Shape.{slots}
 use Rattle.theory.specs.layout.Images.{image-tells}
-use Rattle.theory.specs.check.Decides.{sound-dec}
+use Rattle.theory.specs.check.Search.{sound-dec}
 use Rattle.theory.specs.check.Refusals.{else-none, else-some, due-rest, none-due}
 use Rattle.layout.specs.declared.numbers.Numbers.{Numbers}
 use Rattle.filter.specs.declared.listing.Place.{Place}

@@ -7,7 +7,7 @@ use Rattle.theory.specs.tools.Choose.{choose}
 use Rattle.theory.specs.number.Bytes.{le}
 use Rattle.theory.specs.Refusal.{orElse, widthsDue, dueOf}
 use Rattle.theory.specs.Sound.{Sound}
-use Rattle.theory.specs.check.Decides.{sound-dec}
+use Rattle.theory.specs.check.Search.{sound-dec}
 use Rattle.layout.specs.declared.numbers.Numbers.{Numbers}
 use Rattle.check_list.specs.Text.{ascii, headline, lines}
 

@@ -10,7 +10,7 @@ use native.Mathlib.Nat.{add-zero, eq-zero-or-pos}
 use lib.ListN.{length, getD, take, drop, length-append, length-drop, length-map, replicate}
 use lib.Seq.{drop-cons}
 use Rattle.theory.specs.layout.Images.{image-tells}
-use Rattle.theory.specs.check.Decides.{sound-dec}
+use Rattle.theory.specs.check.Search.{sound-dec}
 use Rattle.layout.specs.declared.numbers.Numbers.{Numbers}
 use Rattle.filter.specs.declared.listing.Place.{Place}
 use Rattle.filter.specs.declared.listing.Step.{Step}

@@ -10,7 +10,8 @@ use Rattle.theory.specs.Image.{image}
 use Rattle.theory.specs.Sound.{Holds, lastEight}
 use Rattle.theory.specs.number.Bytes.{Bytes, le}
 use Rattle.theory.specs.layout.Block.{tailAt}
-use Rattle.theory.specs.layout.Images.{is-image, image-tail}
+use Rattle.theory.specs.layout.Images.{image-tail}
+use Rattle.theory.specs.layout.IsImage.{is-image}
 use Rattle.theory.specs.layout.Tail.{tail-bytes}
 use Rattle.theory.specs.check.Refusals.{none-due}
 use Rattle.layout.specs.declared.numbers.Numbers.{Numbers}
