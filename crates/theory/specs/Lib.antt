@@ -5,6 +5,7 @@ pub mod Joining
 pub mod Listing
 pub mod Planning
 pub mod Refusal
+pub mod Select
 pub mod Shape
 pub mod Sound
 pub mod carry
