@@ -8,14 +8,14 @@ use denote.Ref.{now}
 use denote.Enum.Declared.{tagOf}
 use types.Run.{OneOf}
 use lib.ListN.{length, getD}
+use Rattle.theory.specs.Text.{line}
+use Rattle.layout.specs.Verdicts.{lowestDue}
 use Rattle.filter.proofs.listing.Step.{the-type}
 use Rattle.filter.specs.declared.listing.Step.{Step}
 use Rattle.filter.specs.declared.listing.Step.the-variants.{Fingerprint}
 use Rattle.filter.specs.declared.listing.Stepped.{Stepped}
-use Rattle.layout.specs.Verdicts.{lowestDue}
 use Rattle.filter.specs.Listing.{HoldsOf}
 use Rattle.filter.specs.Places.{stepped, placeOf, step-some}
-use Rattle.check_list.specs.Text.{line, Written}
 use Rattle.check_list.proofs.Filled.{written-as, written-count}
 use Rattle.check_list.proofs.Lines.{line-length}
 use borrow.Author.Needs.{needs}
