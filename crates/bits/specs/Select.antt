@@ -2,14 +2,20 @@
 use Prim.Native.Nat.{ℕ, suc, _+_, _-_, _<_, _≤_}
 use native.Mathlib.Omega.{arith}
 use mathlib.Core.Path.{_≡_, refl, sym, ap, _∙_}
+use Rattle.theory.specs.Select.{Position, place, none, Selects}
 use Rattle.theory.specs.number.Field.{field}
 use Rattle.theory.specs.number.Count.{rank, rank-suc, rank-mono, rank-inj}
 use Rattle.bits.specs.declared.select.Found.{Found}
 use Rattle.bits.specs.declared.select.Found.the-variants.{At, Nothing}
 
+-- the answer as a position
+abbrev pub positionOf : Found → Position
+positionOf (At p) = place p
+positionOf Nothing = none
+
+-- it is the position that select finds
 abbrev pub Selected : ℕ → ℕ → Found → Type 0
-Selected x n (At p) = (p < 64) × (field x p 1 ≡ 1) × (rank x p ≡ n)
-Selected x n Nothing = rank x 64 ≤ n
+Selected x n r = Selects x n (positionOf r)
 
 -- y has the ones of x but for the n lowest
 abbrev pub Cleared : ℕ → ℕ → ℕ → Type 0

@@ -7,7 +7,7 @@ use native.Mathlib.Numerals.{add-one}
 use lib.ListN.{length, take, drop, set, getD, length-append, length-drop, drop-of-length-le}
 use lib.Seq.{take-all, take-at, drop-at, set-at, drop-cons, drop-drop, append-snoc}
 use borrow.Rule.Slice.PartMut.{putMid}
-use Rattle.check_list.specs.Text.{Written}
+use Rattle.check_list.specs.Written.{Written}
 
 -- nothing is written yet
 pub written-none : (a : List ℕ) → Written [] a a 0

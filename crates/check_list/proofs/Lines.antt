@@ -1,11 +1,11 @@
 -- A line per fingerprint, one by one. Assumes nothing.
-use Prim.Native.Nat.{ℕ, suc, _+_, _*_, _≤_, _<_}
+use Prim.Native.Nat.{ℕ, suc, _*_, _<_}
 use mathlib.Core.Path.{_≡_, refl, sym, ap, _∙_}
 use mathlib.Core.List.{List, [], _∷_, _++_, append-assoc, append-nil}
 use native.Mathlib.Omega.{arith}
 use lib.ListN.{length, take, getD, length-append}
 use lib.Seq.{take-suc}
-use Rattle.check_list.specs.Text.{ascii, hex, line, lines}
+use Rattle.theory.specs.Text.{ascii, hex, line, lines}
 use Rattle.check_list.proofs.Numerals.{hex-length}
 
 pub line-length : (f : ℕ) → length (line f) ≡ 17

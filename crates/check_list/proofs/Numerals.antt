@@ -1,7 +1,6 @@
 -- The digits of a number, as the code finds them. Assumes nothing.
 use Prim.Native.Nat.{ℕ, zero, suc, _+_, _-_, _*_, _/_, _%_, _^_, _≤_, _<_}
-use Prim.Native.Char.{code}
-use mathlib.Core.Path.{_≡_, refl, sym, ap, ap₂, _∙_}
+use mathlib.Core.Path.{_≡_, refl, ap, _∙_}
 use mathlib.Core.List.{List, [], _∷_, _++_}
 use native.Mathlib.Omega.{arith}
 use native.Mathlib.Decide.{decLt}
@@ -9,7 +8,7 @@ use native.Mathlib.Nat.{pow-suc}
 use lib.ListN.{length, length-append}
 use lib.Pow.{shr-shr}
 use Rattle.theory.specs.tools.Choose.{choose, choose-yes, choose-no}
-use Rattle.check_list.specs.Text.{ascii, digit, hex, decimalIn, decimal, headline}
+use Rattle.theory.specs.Text.{ascii, digit, hex, decimalIn, decimal, headline}
 
 pub digit-low : (d : ℕ) → d < 10 → digit d ≡ 48 + d
 unfolding digit

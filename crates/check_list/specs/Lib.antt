@@ -1,8 +1,3 @@
-pub mod Answers
-pub mod Asked
-pub mod Enough
-pub mod Examples
-pub mod Files
-pub mod Report
+pub mod Beginning
 pub mod Steps
-pub mod Text
+pub mod Written

@@ -4,7 +4,7 @@ use report::TEXT;
 mod report;
 mod text;
 
-// It reads no more than can matter (specs/Enough), so a stream of any length ends.
+// It reads no more than can matter (theory, program/Enough), so a stream of any length ends.
 fn main() {
     let mut input = report::input_room();
     let size = io::read_full(0, &mut input);

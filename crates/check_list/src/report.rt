@@ -2,11 +2,12 @@
 ghost use mathlib.Core.Path.{_≡_};
 ghost use Prim.Native.Nat.{ℕ, _+_, _*_, _≤_, _<_};
 ghost use lib.ListN.{length};
-ghost use Rattle.check_list.specs.Text.{lines, Written};
+ghost use Rattle.theory.specs.Text.{lines};
+ghost use Rattle.theory.specs.Report.{markDue, headerDue, refused, sound, reportOf};
+ghost use Rattle.theory.specs.program.Enough.{enough};
 ghost use Rattle.layout.specs.Verdicts.{SoundOf};
-ghost use Rattle.check_list.specs.Enough.{enough};
-ghost use Rattle.check_list.specs.Report.{numbersOf, markDue, headerDue, refused, sound, reportOf};
-ghost use Rattle.check_list.specs.Steps.{PutStep, Ready};
+ghost use Rattle.check_list.specs.Written.{Written};
+ghost use Rattle.check_list.specs.Steps.{numbersOf, PutStep, Ready};
 use crate::text::put_headline;
 use crate::text::put_line;
 use filter::listing::Begun;
@@ -70,7 +71,7 @@ fn numbers_of(input: &[u8]) -> Numbers
 
 // The first of 13, 1 and 14 that is due, or 0.
 fn header_due(input: &[u8]) -> u8
-    ensures { λ r. ⌜ r ≡ headerDue (now (input .entry)) (numbersOf (now (input .entry))) ⌝ }
+    ensures { λ r. ⌜ r ≡ headerDue (now (input .entry)) ⌝ }
 {
     let due = mark_due(input);
     if 0 < due {

@@ -2,7 +2,8 @@
 ghost use mathlib.Core.Path.{_≡_};
 ghost use Prim.Native.Nat.{ℕ, _+_, _≤_, _<_};
 ghost use lib.ListN.{length};
-ghost use Rattle.check_list.specs.Text.{digit as digitOf, decimal, headline, line, Written};
+ghost use Rattle.theory.specs.Text.{digit as digitOf, decimal, headline, line};
+ghost use Rattle.check_list.specs.Written.{Written};
 
 // A copy of text.
 fn put_bytes(out: &mut [u8], text: &[u8]) -> usize

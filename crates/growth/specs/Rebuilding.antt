@@ -18,7 +18,8 @@ use Rattle.theory.specs.Sound.{Holds}
 use Rattle.theory.specs.Joining.{added, growthDue}
 use Rattle.theory.specs.number.Bytes.{Bytes, le}
 use Rattle.theory.specs.layout.Block.{tailAt}
-use Rattle.theory.specs.layout.Images.{is-image, image-is, image-tail}
+use Rattle.theory.specs.layout.Images.{image-tail}
+use Rattle.theory.specs.layout.IsImage.{is-image, image-is}
 use Rattle.theory.specs.list.Changed.{allowed-high}
 use Rattle.theory.specs.list.UpTo.{addedUpTo, up-to-all, added-alone, cut-same}
 use Rattle.theory.specs.check.Refusals.{none-due, max-bad, max-good, else-none, else-some}

@@ -14,7 +14,7 @@ use Rattle.theory.specs.Changing.{Rule, insertAnswer, inserted}
 use Rattle.theory.specs.Image.{image}
 use Rattle.theory.specs.Refusal.{orElse, widthsDue, sizeDue, lenDue, maxDue, fullDue, dueOf, due}
 use Rattle.theory.specs.list.Changed.{due-some, room-due}
-use Rattle.theory.specs.check.Decides.{sound-dec}
+use Rattle.theory.specs.check.Search.{sound-dec}
 use Rattle.theory.specs.check.Promises.{not-refused}
 use Rattle.layout.specs.declared.numbers.Numbers.{Numbers}
 use Rattle.layout.specs.Records.{withLen, Changed}

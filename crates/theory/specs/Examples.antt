@@ -1,75 +1,87 @@
--- Document 01's starred examples, shown from the definitions: one table, and one claim over it.
--- A new kind of example is a constructor of `Example` with a clause of `holds`; a new example is a row of `table`.
-use Prim.Native.Nat.{ℕ, zero, suc, _-_, _*_, _%_, _^_, min}
-use mathlib.Core.Bool.{Bool, true, false, _&&_}
-use mathlib.Core.List.{List, [], _∷_}
+-- Document 01's starred examples, and inputs that its check program refuses, shown from the definitions: one table, and one claim over it.
+-- A new kind of example is a constructor of `Example` with a clause of `holds`; a new example is a row of `table`, with its proof in `examples`.
+use Prim.Native.Nat.{ℕ, zero, suc, _+_, _-_, _*_, _^_}
+use Prim.Native.String.{String}
+use mathlib.Core.Path.{_≡_, refl, sym, ap, _∙_}
+use mathlib.Core.List.{List, [], _∷_, _++_}
+use native.Mathlib.Omega.{arith}
 use native.Mathlib.Decide.{decLe, decLt, ℕ-discrete}
-use lib.Dec.{T, eqb, leb, ltb}
-use lib.ListN.{replicate, set}
+use lib.ListN.{getD, take, replicate, set}
 use Rattle.theory.specs.tools.Choose.{choose}
-use Rattle.theory.specs.number.Bytes.{toBytes}
-use Rattle.theory.specs.number.Packed.{packed}
-use Rattle.theory.specs.number.Field.{field}
-use Rattle.theory.specs.number.Count.{rank}
 use Rattle.theory.specs.tools.Total.{total}
-use Rattle.theory.specs.Holding.{run}
+use Rattle.theory.specs.number.Bytes.{le, toBytes}
+use Rattle.theory.specs.number.Count.{rank}
+use Rattle.theory.specs.number.Field.{field}
+use Rattle.theory.specs.number.Packed.{packed}
 use Rattle.theory.specs.Shape.{slots, capacity, blocks, bytes}
+use Rattle.theory.specs.Holding.{Holding, Ascending, Least, Under, run, fewer}
 use Rattle.theory.specs.Image.{image, blocksOf, blockOf, viewsOf, cell, behind, start, carry, walk, occ, last, restAt, many, runAt}
 use Rattle.theory.specs.Planning.{widthFrom, neededQbits}
+use Rattle.theory.specs.Refusal.{orElse, widthsDue, dueOf, sizeDue, lenDue, maxDue, fullDue}
+use Rattle.theory.specs.Select.{Position, place, none, Selects}
+use Rattle.theory.specs.Text.{ascii, digit, hex, decimalIn, decimal, headline, line, lines}
+use Rattle.theory.specs.Report.{lenOf, qbitsOf, rbitsOf, maxOf, bufferOf, markDue, maxQbits, limitDue, headerDue, numberDue, refused, sound, answer, reportOf}
+use Rattle.theory.specs.list.OneRun.{many-copies}
+use Rattle.theory.specs.program.Files.{fileOf, list-file}
 
 -- a byte's place and value
-data Byte : Type 0 where
+pub data Byte : Type 0 where
   byte : ℕ → ℕ → Byte
 
 -- what is asked, and last what document 01 says
-data Example : Type 0 where
+pub data Example : Type 0 where
   -- the capacity of 2 ^ qbits slots
   capacityOf : ℕ → ℕ → Example
   -- the slots for a capacity
   slotsFor : ℕ → ℕ → Example
   -- the buffer's bytes for qbits and rbits
   bytesOf : ℕ → ℕ → ℕ → Example
-  -- the place of the n-th one of a word, counted from 0; and that there is none
-  selectAt : ℕ → ℕ → ℕ → Example
-  selectNone : ℕ → ℕ → Example
+  -- the position of the n-th one of a word, counted from 0
+  selectOf : ℕ → ℕ → Position → Example
   -- the image for qbits and rbits of the fingerprints held: these bytes, all else 0
   imageOf : ℕ → ℕ → List ℕ → List Byte → Example
-  -- the offsets of all blocks for qbits, if n (q) fingerprints have the quotient q
-  offsetsOf : ℕ → (ℕ → ℕ) → List ℕ → Example
+  -- the offset bytes of all its blocks
+  offsetsOf : ℕ → ℕ → List ℕ → List ℕ → Example
+  -- what the check program writes, whole, for an input
+  prints : List ℕ → String → Example
 
-same : List ℕ → List ℕ → Bool
-same [] [] = true
-same [] (b ∷ t) = false
-same (a ∷ s) [] = false
-same (a ∷ s) (b ∷ t) = eqb a b && same s t
+-- a buffer of n bytes: these, all else 0
+filled : ℕ → List Byte → List ℕ
+filled n [] = replicate n 0
+filled n (byte i v ∷ l) = set (filled n l) i v
 
-written : List ℕ → List Byte → List ℕ
-written s [] = s
-written s (byte i v ∷ l) = set (written s l) i v
-
-offsets : ℕ → (ℕ → ℕ) → ℕ → ℕ → List ℕ
-offsets m n zero b = []
-offsets m n (suc k) b = min (carry m n (64 * b)) 255 ∷ offsets m n k (suc b)
+-- the first bytes of k blocks of z bytes, from block b on
+offsetBytes : ℕ → List ℕ → ℕ → ℕ → List ℕ
+offsetBytes z s zero b = []
+offsetBytes z s (suc k) b = getD s (b * z) 0 ∷ offsetBytes z s k (suc b)
 
 -- the definitions say the same
-holds : Example → Bool
-holds (capacityOf q is) = eqb (capacity q) is
-holds (slotsFor c is) = eqb (slots (neededQbits c)) is
-holds (bytesOf q r is) = eqb (bytes q r) is
-holds (selectAt x n is) = ltb is 64 && (eqb (field x is 1) 1 && eqb (rank x is) n)
-holds (selectNone x n) = leb (rank x 64) n
-holds (imageOf q r l is) = same (image q r l) (written (replicate (bytes q r) 0) is)
-holds (offsetsOf q n is) = same (offsets (slots q) n (blocks q) 0) is
+holds : Example → Type 0
+holds (capacityOf q is) = capacity q ≡ is
+holds (slotsFor c is) = slots (neededQbits c) ≡ is
+holds (bytesOf q r is) = bytes q r ≡ is
+holds (selectOf x n is) = Selects x n is
+holds (imageOf q r l is) = image q r l ≡ filled (bytes q r) is
+holds (offsetsOf q r l is) = offsetBytes (17 + 8 * r) (image q r l) (blocks q) 0 ≡ is
+holds (prints s is) = reportOf s ≡ ascii is
 
-allHold : List Example → Bool
-allHold [] = true
-allHold (e ∷ es) = holds e && allHold es
+-- all of them hold
+pub AllHold : List Example → Type 0
+AllHold [] = Unit {0}
+AllHold (e ∷ es) = holds e × AllHold es
 
--- k copies with the quotient 0
-copiesAt0 : ℕ → ℕ → ℕ
-copiesAt0 k x = choose (ℕ-discrete (x % 512) 0) k 0
+-- shape 6/8, holding 0103, 0105, 0203: its buffer, and its file
+held : List ℕ
+held = 0x0103 ∷ 0x0105 ∷ 0x0203 ∷ []
 
-table : List Example
+buffer : List Byte
+buffer = byte 1 0x06 ∷ byte 9 0x0c ∷ byte 18 0x03 ∷ byte 19 0x05 ∷ byte 20 0x03 ∷ []
+
+file : List ℕ
+file = 0x51 ∷ 0x46 ∷ 0x03 ∷ replicate 7 0x00 ++ (0x06 ∷ 0x08 ∷ 0x00 ∷ filled 89 buffer)
+
+-- document 01's starred lines in their order, and then an input for each number that is due before the buffer is looked at
+pub table : List Example
 table =
     capacityOf 6 61
     ∷ slotsFor 0 64
@@ -77,21 +89,88 @@ table =
     ∷ slotsFor 62 128
     ∷ slotsFor 122 128
     ∷ slotsFor 123 256
+    ∷ selectOf 0 0 none
+    ∷ selectOf 11 2 (place 3)
+    ∷ selectOf (2 ^ 63) 0 (place 63)
+    ∷ selectOf (2 ^ 64 - 1) 63 (place 63)
+    ∷ selectOf (2 ^ 64 - 1) 64 none
+    ∷ selectOf (2 ^ 64 - 1) 128 none
     ∷ bytesOf 6 8 89
     ∷ bytesOf 6 58 489
     ∷ bytesOf 7 8 170
-    ∷ selectNone 0 0
-    ∷ selectAt 11 2 3
-    ∷ selectAt (2 ^ 63) 0 63
-    ∷ selectAt (2 ^ 64 - 1) 63 63
-    ∷ selectNone (2 ^ 64 - 1) 64
-    ∷ selectNone (2 ^ 64 - 1) 128
-    ∷ imageOf 6 8 (0x0103 ∷ 0x0105 ∷ 0x0203 ∷ []) (byte 1 0x06 ∷ byte 9 0x0c ∷ byte 18 0x03 ∷ byte 19 0x05 ∷ byte 20 0x03 ∷ [])
-    ∷ imageOf 6 8 (0x3f07 ∷ 0x3f07 ∷ 0x3f07 ∷ []) (byte 0 0x02 ∷ byte 8 0x80 ∷ byte 9 0x02 ∷ byte 17 0x07 ∷ byte 18 0x07 ∷ byte 80 0x07 ∷ [])
-    ∷ offsetsOf 9 (copiesAt0 400) (0 ∷ 255 ∷ 255 ∷ 208 ∷ 144 ∷ 80 ∷ 16 ∷ 0 ∷ [])
-    ∷ offsetsOf 9 (copiesAt0 399) (0 ∷ 255 ∷ 255 ∷ 207 ∷ 143 ∷ 79 ∷ 15 ∷ 0 ∷ [])
+    ∷ imageOf 6 8 held buffer
+    ∷ prints file "sound 3\n0000000000000103\n0000000000000105\n0000000000000203\n"
+    ∷ imageOf 6 8 (replicate 3 0x3f07) (byte 0 0x02 ∷ byte 8 0x80 ∷ byte 9 0x02 ∷ byte 17 0x07 ∷ byte 18 0x07 ∷ byte 80 0x07 ∷ [])
+    ∷ offsetsOf 9 8 (replicate 400 0x07) (0 ∷ 255 ∷ 255 ∷ 208 ∷ 144 ∷ 80 ∷ 16 ∷ 0 ∷ [])
+    ∷ offsetsOf 9 8 (fewer 0x07 (replicate 400 0x07)) (0 ∷ 255 ∷ 255 ∷ 207 ∷ 143 ∷ 79 ∷ 15 ∷ 0 ∷ [])
+    ∷ prints [] "refused 13\n"
+    ∷ prints (take 12 file) "refused 13\n"
+    ∷ prints (set file 1 0x47) "refused 13\n"
+    ∷ prints (set file 10 5) "refused 1\n"
+    ∷ prints (set (set file 10 10) 11 55) "refused 1\n"
+    ∷ prints (set file 10 10) "refused 14\n"
+    ∷ prints (take 13 file) "refused 2\n"
+    ∷ prints (take 101 file) "refused 2\n"
+    ∷ prints (file ++ (0 ∷ [])) "refused 2\n"
+    ∷ prints (set file 2 65) "refused 3\n"
+    ∷ prints (set (set file 2 64) 12 5) "refused 4\n"
+    ∷ prints (set file 2 64) "refused 5\n"
     ∷ []
 
-examples : T (allHold table)
-unfolding allHold holds table rank field total same written offsets copiesAt0 choose decLe decLt ℕ-discrete capacity slots blocks bytes neededQbits widthFrom image blocksOf blockOf viewsOf cell behind start carry walk occ last restAt many runAt run toBytes packed
-examples = tt
+-- ---- the rows that need more than computation
+held-image : image 6 8 held ≡ filled 89 buffer
+unfolding held buffer filled choose decLe decLt ℕ-discrete slots blocks image blocksOf blockOf viewsOf cell behind start carry walk occ last restAt many runAt run toBytes packed
+held-image = refl
+
+holding : Holding 64 256 held
+unfolding held Ascending Least Under
+holding = record { ascending = omega arith; under = omega arith; fewer = omega arith }
+
+file-printed : reportOf file ≡ sound 3 held
+unfolding file held slots maxQbits fileOf toBytes
+file-printed =
+    ap (λ b. reportOf (fileOf 3 6 8 0 b)) (sym held-image)
+    ∙ list-file 6 8 held (omega arith) (record { low = omega arith; high = omega arith; some = omega arith; sum = omega arith }) holding
+
+-- the proof of a row, and of those behind it
+infixr 4 _and_
+_and_ : {A B : Type 0} → A → B → A × B
+a and b = (a, b)
+
+-- every row holds
+pub examples : AllHold table
+unfolding AllHold holds table held buffer file filled offsetBytes fewer slots capacity blocks bytes neededQbits widthFrom rank field total choose decLe decLt ℕ-discrete image blocksOf blockOf viewsOf toBytes reportOf answer numberDue headerDue markDue limitDue maxQbits lenOf qbitsOf rbitsOf maxOf bufferOf orElse widthsDue dueOf sizeDue lenDue maxDue fullDue le refused sound headline line lines hex decimal decimalIn digit ascii
+examples =
+    refl
+    and refl
+    and refl
+    and refl
+    and refl
+    and refl
+    and omega arith
+    and (omega arith, refl, refl)
+    and (omega arith, refl, refl)
+    and (omega arith, refl, refl)
+    and omega arith
+    and omega arith
+    and refl
+    and refl
+    and refl
+    and held-image
+    and file-printed
+    and (unfold cell behind start carry walk occ last restAt many runAt run packed in refl)
+    and rw (many-copies 512 256 0x07 400) (unfold carry walk in refl)
+    and rw (many-copies 512 256 0x07 399) (unfold carry walk in refl)
+    and refl
+    and refl
+    and refl
+    and refl
+    and refl
+    and refl
+    and refl
+    and refl
+    and refl
+    and refl
+    and refl
+    and refl
+    and tt

@@ -7,12 +7,16 @@ pub mod Joining
 pub mod Listing
 pub mod Planning
 pub mod Refusal
+pub mod Report
+pub mod Select
 pub mod Shape
 pub mod Sound
+pub mod Text
 pub mod carry
 pub mod check
 pub mod layout
 pub mod list
 pub mod number
 pub mod plan
+pub mod program
 pub mod tools

@@ -12,4 +12,5 @@ pub mod Queue
 pub mod Reading
 pub mod Refusals
 pub mod Rounds
+pub mod Search
 pub mod Step

@@ -8,6 +8,7 @@ pub mod Fewer
 pub mod FreeSlot
 pub mod Images
 pub mod Inserting
+pub mod IsImage
 pub mod Kept
 pub mod More
 pub mod Offsets

@@ -6,6 +6,7 @@ pub mod Firsts
 pub mod Flat
 pub mod Last
 pub mod More
+pub mod OneRun
 pub mod Runs
 pub mod Scan
 pub mod Seek

@@ -15,7 +15,8 @@ use Rattle.theory.specs.Image.{image}
 use Rattle.theory.specs.Sound.{Holds, lastEight}
 use Rattle.theory.specs.number.Bytes.{Bytes, le}
 use Rattle.theory.specs.layout.Block.{tailAt}
-use Rattle.theory.specs.layout.Images.{is-image, image-tail}
+use Rattle.theory.specs.layout.Images.{image-tail}
+use Rattle.theory.specs.layout.IsImage.{is-image}
 use Rattle.theory.specs.layout.Tail.{tail-bytes}
 use Rattle.theory.specs.layout.Removing.{fewer-length}
 use Rattle.theory.specs.list.Changed.{absent-answer, held-answer, fewer-absent}

@@ -14,7 +14,7 @@ use Rattle.theory.specs.list.Copies.{copies-tell}
 use Rattle.theory.specs.Shape.{slots, bytes, Widths}
 use Rattle.theory.specs.Image.{image}
 use Rattle.theory.specs.layout.Images.{image-tells, image-length}
-use Rattle.theory.specs.check.Decides.{sound-dec}
+use Rattle.theory.specs.check.Search.{sound-dec}
 use Rattle.theory.specs.check.Refusals.{none-due, clear-none, max-absent}
 use Rattle.theory.specs.Refusal.{due}
 use Rattle.theory.specs.Sound.{Quick, Sound, Holds, Checked}

@@ -1,18 +1,18 @@
--- The image's cells are laid out by the carry: every holding's views are an image. Assumes nothing.
-use Prim.Native.Nat.{ℕ, zero, suc, _+_, _-_, _*_, _/_, _%_, _^_, _≤_, _<_, min}
-use mathlib.Core.Path.{_≡_, refl, sym, ap, ap₂, _∙_}
+-- The image's cells are laid out by the carry. Assumes nothing.
+use Prim.Native.Nat.{ℕ, zero, suc, _+_, _-_, _*_, _/_, _%_, _≤_, _<_}
+use mathlib.Core.Path.{_≡_, refl, sym, ap, _∙_}
 use mathlib.Core.List.{List}
 use native.Mathlib.Omega.{arith}
 use native.Mathlib.Decide.{decLt, ℕ-discrete}
-use native.Mathlib.Nat.{mod-lt, mod-eq-of-lt, add-mod-mod, add-mod-right, div-add-mod', mul-add-mod-self-right, add-comm, add-mul-mod-self-right, add-zero, zero-mul}
-use lib.ListN.{length, getD}
+use native.Mathlib.Nat.{mod-lt, mod-eq-of-lt, add-mod-mod, add-mod-right, div-add-mod', mul-add-mod-self-right, add-comm, zero-mul}
+use lib.ListN.{getD}
 use Rattle.theory.specs.tools.Choose.{choose, choose-yes, choose-no, choose-by}
 use Rattle.theory.specs.tools.Total.{total-one}
 use Rattle.theory.specs.Holding.{run, Holding}
 use Rattle.theory.specs.Image.{behind, viewsOf, runAt, start, carry, many, last, restAt, cell}
 use Rattle.theory.specs.carry.Carry.{Free, mod-window, run-not-free, carry-per, places-distinct, Round}
 use Rattle.theory.specs.layout.Cells.{Filled, filled-round}
-use Rattle.theory.specs.layout.Views.{many-round, Image}
+use Rattle.theory.specs.layout.Views.{many-round}
 
 -- a function that repeats after m is told by its argument modulo m
 pub per-mod : (m : ℕ) (f : ℕ → ℕ) → ((x : ℕ) → f (x + m) ≡ f x) → (k y : ℕ) → f (y + k * m) ≡ f y
@@ -76,21 +76,15 @@ module _ (m : ℕ) (n : ℕ → ℕ) (r : Round m n) (c : ℕ → ℕ → ℕ) w
       (λ x a b j l. cell-hit m _ x j (omega arith) (mod-lt (start m n x + j) (omega arith)) (omega arith) l refl)
       (λ t a b f. ap (cell m n c m) (mod-eq-of-lt (omega arith)) ∙ cell-miss m t (omega arith) (omega arith) f)
 
--- the views that document 01 gives a holding are its image
-pub views-image : (m R : ℕ) (l : List ℕ) → 0 < R → Holding m R l → Image m R l (viewsOf m R l)
-unfolding viewsOf last restAt runAt
-views-image m R l pos h = record {
-  occupieds = λ x b. refl;
-  runends = cell-filled m n r (last n) (λ x j. ap (λ z. 1 - (z - suc j)) (r .per x));
-  remainders = cell-filled m n r (restAt m R l) (λ x j. ap (λ z. getD (run R l z) j 0) (add-mod-right x m));
-  offsets = λ b d. refl;
-}
-  where
-    n : ℕ → ℕ
-    n = many m R l
+-- the runend bits and the remainders that document 01 gives a holding
+module _ (m R : ℕ) (l : List ℕ) (pos : 0 < R) (h : Holding m R l) where
+  pub ends-filled : Filled m (many m R l) (last (many m R l)) (λ t. viewsOf m R l .runend (t % m))
+  unfolding viewsOf last
+  ends-filled = cell-filled m (many m R l) (many-round m R l pos h) (last (many m R l)) (λ x j. ap (λ z. 1 - (z - suc j)) (many-round m R l pos h .per x))
 
-    r : Round m n
-    r = many-round m R l pos h
+  pub rests-filled : Filled m (many m R l) (restAt m R l) (λ t. viewsOf m R l .remainder (t % m))
+  unfolding viewsOf restAt runAt
+  rests-filled = cell-filled m (many m R l) (many-round m R l pos h) (restAt m R l) (λ x j. ap (λ z. getD (run R l z) j 0) (add-mod-right x m))
 
 -- what holds of every content holds of every cell
 pub cell-all : (P : ℕ → Type 0) (m : ℕ) (n : ℕ → ℕ) (c : ℕ → ℕ → ℕ) → P 0 → (k : ℕ) → ((x : ℕ) → x < k → (j : ℕ) → j < n x → P (c x j)) → (s : ℕ) → P (cell m n c k s)

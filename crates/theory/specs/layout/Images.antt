@@ -1,13 +1,11 @@
--- The image function and the views: every holding has an image, which is sound; a buffer is an image exactly if its views are one and its
--- last eight bytes are zero; two holdings with one image are equal. Assumes nothing.
-use Prim.Native.Nat.{ℕ, zero, suc, _+_, _-_, _*_, _/_, _%_, _^_, _≤_, _<_, min}
-use mathlib.Core.Path.{_≡_, refl, sym, ap, ap₂, _∙_}
-use mathlib.Core.List.{List, [], _∷_, _++_}
+-- The bytes of the image: how many they are, and that two holdings with one image are equal. Assumes nothing.
+use Prim.Native.Nat.{ℕ, _+_, _*_, _%_, _^_, _≤_, _<_}
+use mathlib.Core.Path.{_≡_, sym, ap, _∙_}
+use mathlib.Core.List.{List, _++_}
 use native.Mathlib.Omega.{arith}
-use native.Mathlib.Nat.{mod-eq-of-lt, mod-lt}
-use lib.ListN.{length, getD, length-append}
-use lib.Pow.{pow-pos, pow-add, pow-mono}
-use Rattle.theory.specs.number.Bytes.{length-toBytes, le, toBytes, Bytes, bytes-toBytes, append-high, bytes-append, le-lt, le-inj}
+use lib.ListN.{length, length-append}
+use lib.Pow.{pow-pos}
+use Rattle.theory.specs.number.Bytes.{length-toBytes, le, toBytes, Bytes, bytes-toBytes, append-high, bytes-append}
 use Rattle.theory.specs.number.Field.{field}
 use Rattle.theory.specs.Holding.{run, Holding}
 use Rattle.theory.specs.list.Runs.{under-at, run-under}
@@ -15,10 +13,10 @@ use Rattle.theory.specs.Shape.{blocks, slots, bytes}
 use Rattle.theory.specs.Image.{last, image, runAt, occ, restAt, many, viewsOf, blocksOf}
 use Rattle.theory.specs.layout.Block.{block, tailAt, views}
 use Rattle.theory.specs.layout.Bytes.{bytes-views, Fitting, blocks-length, blocks-bytes}
-use Rattle.theory.specs.layout.Cell.{cell-all, views-image}
-use Rattle.theory.specs.layout.Same.{buffer-same}
+use Rattle.theory.specs.layout.Cell.{cell-all, ends-filled, rests-filled}
+use Rattle.theory.specs.layout.Cells.{Filled}
 use Rattle.theory.specs.layout.Sizes.{slots-blocks, slots-pos}
-use Rattle.theory.specs.layout.Views.{Same, same-image, one-holding, one-image, Image}
+use Rattle.theory.specs.layout.Views.{Same, one-holding, filled-as}
 
 -- the views of a holding fit their fields
 views-fit : (r m : ℕ) (l : List ℕ) → 0 < m → Fitting r m (viewsOf m (2 ^ r) l)
@@ -48,33 +46,27 @@ image-tail q r l =
     at : 8 * block r (blocks q) ≡ 8 * length (blocksOf r (viewsOf (slots q) (2 ^ r) l) (blocks q)) + 0
     at = omega (arith, blocks-length r (viewsOf (slots q) (2 ^ r) l) (blocks q))
 
-image-same : (q r : ℕ) (l : List ℕ) → 6 ≤ q → Same (slots q) (views r (le (image q r l))) (viewsOf (slots q) (2 ^ r) l)
+-- its views are those that document 01 gives the holding
+pub image-same : (q r : ℕ) (l : List ℕ) → 6 ≤ q → Same (slots q) (views r (le (image q r l))) (viewsOf (slots q) (2 ^ r) l)
 unfolding image
 image-same q r l h =
     let e : slots q ≡ 64 * blocks q = slots-blocks q h in
     rw e (bytes-views r (viewsOf (64 * blocks q) (2 ^ r) l) (blocks q) (toBytes 8 0) (views-fit r (64 * blocks q) l (rw e at (slots-pos q))))
 
+-- its runend bits and its remainders stand in its bytes
 module _ (q r : ℕ) (low : 6 ≤ q) (l : List ℕ) (h : Holding (slots q) (2 ^ r) l) where
-  -- every holding has an image
-  pub image-is : Image (slots q) (2 ^ r) l (views r (le (image q r l)))
-  image-is = same-image (slots q) (2 ^ r) l _ _ (slots-pos q) (image-same q r l low) (views-image (slots q) (2 ^ r) l (pow-pos r) h)
+  pub image-ends : Filled (slots q) (many (slots q) (2 ^ r) l) (last (many (slots q) (2 ^ r) l)) (λ t. views r (le (image q r l)) .runend (t % slots q))
+  image-ends = filled-as (slots q) _ _ _ _ (slots-pos q) (image-same q r l low .runends) (ends-filled (slots q) (2 ^ r) l (pow-pos r) h)
 
-  -- bytes whose views are the image, with zeros at the end, are the image
-  pub is-image : (s : List ℕ) → Bytes s → length s ≡ bytes q r → Image (slots q) (2 ^ r) l (views r (le s)) → tailAt r (blocks q) (le s) ≡ 0 → s ≡ image q r l
-  unfolding bytes
-  is-image s b n i t =
-      le-inj s (image q r l) b (image-bytes q r l) (n ∙ sym (image-length q r l))
-      (sym (mod-eq-of-lt (small s n)) ∙ buffer-same r (blocks q) (le s) (le (image q r l)) same (t ∙ sym (image-tail q r l)) ∙ mod-eq-of-lt (small (image q r l) (image-length q r l)))
-    where
-      same : Same (64 * blocks q) (views r (le s)) (views r (le (image q r l)))
-      same = rw (slots-blocks q low) at (one-image (slots q) (2 ^ r) l _ _ (pow-pos r) h i image-is)
-
-      small : (u : List ℕ) → length u ≡ blocks q * (17 + 8 * r) + 8 → le u < 2 ^ (64 + 8 * block r (blocks q))
-      small u e =
-          let z : 8 * length u ≡ 64 + 8 * block r (blocks q) = omega arith in
-          rw z at (le-lt u)
+  pub image-rests : Filled (slots q) (many (slots q) (2 ^ r) l) (restAt (slots q) (2 ^ r) l) (λ t. views r (le (image q r l)) .remainder (t % slots q))
+  image-rests = filled-as (slots q) _ _ _ _ (slots-pos q) (image-same q r l low .remainders) (rests-filled (slots q) (2 ^ r) l (pow-pos r) h)
 
 -- two holdings with one image are equal: the list held is a function of the buffer
 pub image-tells : (q r : ℕ) → 6 ≤ q → (l l′ : List ℕ) → Holding (slots q) (2 ^ r) l → Holding (slots q) (2 ^ r) l′ → image q r l ≡ image q r l′ → l ≡ l′
+unfolding viewsOf
 image-tells q r low l l′ h h′ e =
-    one-holding (slots q) (2 ^ r) l l′ (views r (le (image q r l′))) (pow-pos r) h h′ (rw e at (image-is q r low l h)) (image-is q r low l′ h′)
+    one-holding (slots q) (2 ^ r) l l′ _ _ (pow-pos r) h h′ occupieds
+    (rw e at (image-ends q r low l h)) (image-ends q r low l′ h′) (rw e at (image-rests q r low l h)) (image-rests q r low l′ h′)
+  where
+    occupieds : (x : ℕ) → x < slots q → occ (many (slots q) (2 ^ r) l) x ≡ occ (many (slots q) (2 ^ r) l′) x
+    occupieds x b = sym (image-same q r l low .occupieds x b) ∙ ap (λ s. views r (le s) .occupied x) e ∙ image-same q r l′ low .occupieds x b

@@ -1,12 +1,11 @@
 -- The image of a holding (document 01), by the four views of a buffer of m slots.
 -- Assumes nothing.
-use Prim.Native.Nat.{ℕ, zero, suc, _+_, _-_, _*_, _/_, _%_, _≤_, _<_, min, max}
-use mathlib.Core.Path.{_≡_, refl, sym, ap, ap₂, _∙_}
-use mathlib.Core.Logic.{_⊎_, inl, inr, _≢_}
-use mathlib.Core.List.{List, [], _∷_, _++_, map}
+use Prim.Native.Nat.{ℕ, suc, _+_, _*_, _%_, _≤_, _<_, min}
+use mathlib.Core.Path.{_≡_, sym, ap, _∙_}
+use mathlib.Core.Logic.{_⊎_, inl, inr}
+use mathlib.Core.List.{List}
 use native.Mathlib.Omega.{arith}
-use native.Mathlib.Decide.{decLe, decLt, ℕ-discrete}
-use native.Mathlib.Nat.{add-zero, add-suc, suc-add, zero-add, add-comm, mod-lt, mod-eq-of-lt, add-mod-right, mod-mod}
+use native.Mathlib.Nat.{mod-lt, mod-eq-of-lt, add-mod-right}
 use lib.ListN.{length, getD}
 use lib.Seq.{ext-getD}
 use Rattle.theory.specs.tools.Total.{total-same}
@@ -39,10 +38,13 @@ many-round m R l pos h = record {
   few = omega (arith, h .fewer, runs-total R pos l m (h .ascending) (h .under), total-same (many m R l) (λ x. length (run R l x)) m (λ i b. ap (λ z. length (run R l z)) (mod-eq-of-lt b)));
 }
 
--- a buffer is the image of one holding at most
-pub one-holding : (m R : ℕ) (l l′ : List ℕ) (v : Views) → 0 < R → Holding m R l → Holding m R l′ → Image m R l v → Image m R l′ v → l ≡ l′
+-- slots whose occupied bits, runend bits and remainders are laid out by two holdings are laid out by one: the offset bytes are not needed to tell
+pub one-holding : (m R : ℕ) (l l′ : List ℕ) (ends rests : ℕ → ℕ) → 0 < R → Holding m R l → Holding m R l′
+    → ((x : ℕ) → x < m → occ (many m R l) x ≡ occ (many m R l′) x)
+    → Filled m (many m R l) (last (many m R l)) ends → Filled m (many m R l′) (last (many m R l′)) ends
+    → Filled m (many m R l) (restAt m R l) rests → Filled m (many m R l′) (restAt m R l′) rests → l ≡ l′
 unfolding many runAt restAt
-one-holding m R l l′ v pos h h′ i i′ = same-runs R pos l l′ m (h .ascending) (h .under) (h′ .ascending) (h′ .under) runs
+one-holding m R l l′ ends rests pos h h′ o e e′ c c′ = same-runs R pos l l′ m (h .ascending) (h .under) (h′ .ascending) (h′ .under) runs
   where
     pos-m : 0 < m
     pos-m = omega (arith, h .fewer)
@@ -60,10 +62,10 @@ one-holding m R l l′ v pos h h′ i i′ = same-runs R pos l l′ m (h .ascend
     up′ x = occ-ap (many m R l′) (x + m) x (r′ .per x)
 
     occs : (x : ℕ) → occ (many m R l) x ≡ occ (many m R l′) x
-    occs = per-all m _ (λ x e. up x ∙ e ∙ sym (up′ x)) (λ x e. sym (up x) ∙ e ∙ up′ x) pos-m 0 (λ x a b. sym (i .occupieds x (omega arith)) ∙ i′ .occupieds x (omega arith))
+    occs = per-all m _ (λ x e. up x ∙ e ∙ sym (up′ x)) (λ x e. sym (up x) ∙ e ∙ up′ x) pos-m 0 (λ x a b. o x (omega arith))
 
     same : many m R l ≡ many m R l′
-    same = counts-same m (many m R l) (many m R l′) (λ t. v .runend (t % m)) r r′ (i .runends) (i′ .runends) occs
+    same = counts-same m (many m R l) (many m R l′) ends r r′ e e′ occs
 
     runs : (x : ℕ) → x < m → run R l x ≡ run R l′ x
     runs x b = rw (mod-eq-of-lt b) at all
@@ -73,7 +75,7 @@ one-holding m R l l′ v pos h h′ i i′ = same-runs R pos l l′ m (h .ascend
 
         all : run R l (x % m) ≡ run R l′ (x % m)
         all = ext-getD 0 (run R l (x % m)) (run R l′ (x % m)) len
-            (λ j k. sym (i .remainders .used x j k) ∙ ap (λ n. v .remainder ((start m n x + j) % m)) same ∙ i′ .remainders .used x j (omega (arith, len)))
+            (λ j k. sym (c .used x j k) ∙ ap (λ n. rests (start m n x + j)) same ∙ c′ .used x j (omega (arith, len)))
 
 -- cells laid out by one rule are the same cells
 filled-same : (m : ℕ) (n : ℕ → ℕ) (c : ℕ → ℕ → ℕ) (cell cell′ : ℕ → ℕ) → Round m n → Filled m n c cell → Filled m n c cell′ → (t : ℕ) → m ≤ t → cell t ≡ cell′ t
@@ -113,17 +115,9 @@ one-image m R l v w pos h i j = record {
     slot : (x : ℕ) → x < m → (x + m) % m ≡ x
     slot x b = add-mod-right x m ∙ mod-eq-of-lt b
 
--- views that agree are images of the same
-filled-as : (m : ℕ) (n : ℕ → ℕ) (c : ℕ → ℕ → ℕ) (f g : ℕ → ℕ) → 0 < m → ((s : ℕ) → s < m → f s ≡ g s) → Filled m n c (λ t. g (t % m)) → Filled m n c (λ t. f (t % m))
+-- cells that agree are laid out by one rule
+pub filled-as : (m : ℕ) (n : ℕ → ℕ) (c : ℕ → ℕ → ℕ) (f g : ℕ → ℕ) → 0 < m → ((s : ℕ) → s < m → f s ≡ g s) → Filled m n c (λ t. g (t % m)) → Filled m n c (λ t. f (t % m))
 filled-as m n c f g p e h = record {
   used = λ x j l. e ((start m n x + j) % m) (mod-lt (start m n x + j) p) ∙ h .used x j l;
   free = λ t z. e (t % m) (mod-lt t p) ∙ h .free t z;
-}
-
-pub same-image : (m R : ℕ) (l : List ℕ) (v w : Views) → 0 < m → Same m v w → Image m R l w → Image m R l v
-same-image m R l v w p s i = record {
-  occupieds = λ x b. s .occupieds x b ∙ i .occupieds x b;
-  runends = filled-as m (many m R l) (last (many m R l)) (v .runend) (w .runend) p (s .runends) (i .runends);
-  remainders = filled-as m (many m R l) (restAt m R l) (v .remainder) (w .remainder) p (s .remainders) (i .remainders);
-  offsets = λ b d. s .offsets b d ∙ i .offsets b d;
 }

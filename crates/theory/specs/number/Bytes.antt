@@ -1,6 +1,6 @@
 -- A list of bytes as one number, little-endian. An element counts modulo 256, so no law but `le-byte` and `le-inj`
 -- has to ask that the elements are bytes (`Bytes`), which the type `List ℕ` does not say. Assumes nothing.
-use Prim.Native.Nat.{ℕ, zero, suc, _+_, _-_, _*_, _/_, _%_, _^_, _≤_, _<_}
+use Prim.Native.Nat.{ℕ, zero, suc, _+_, _*_, _/_, _%_, _^_, _≤_, _<_}
 use mathlib.Core.Path.{_≡_, refl, sym, ap, ap₂, _∙_}
 use mathlib.Core.List.{List, [], _∷_, _++_, append-assoc}
 use native.Mathlib.Nat.{add-comm, mod-eq-of-lt, mul-add, mul-comm, add-zero, div-one, mod-one, mul-suc, zero-div, zero-mod, suc-inj, mul-left-comm}
@@ -38,7 +38,7 @@ le-drop zero s = sym (div-one (le s))
 le-drop (suc o) [] = sym (zero-div _)
 le-drop (suc o) (b ∷ s) = le-drop o s ∙ sym (shift b (le s) o)
 
-pub le-take : (n : ℕ) (s : List ℕ) → le (take n s) ≡ le s % 2 ^ (8 * n)
+le-take : (n : ℕ) (s : List ℕ) → le (take n s) ≡ le s % 2 ^ (8 * n)
 unfolding le
 le-take zero s = sym (mod-one (le s))
 le-take (suc n) [] = sym (zero-mod _)

@@ -2,8 +2,8 @@
 use Prim.Native.Nat.{ℕ}
 use lib.ListN.{length-replicate}
 use Rattle.theory.specs.Shape.{slots, blocks, bytes}
-use Rattle.check_list.specs.Report.{maxQbits}
-use Rattle.check_list.specs.Enough.{enough}
+use Rattle.theory.specs.Report.{maxQbits}
+use Rattle.theory.specs.program.Enough.{enough}
 use Rattle.check_list.proofs.report.input_room.Statement.{statement}
 use Rattle.check_list.proofs.report.input_room.Tie as tie
 

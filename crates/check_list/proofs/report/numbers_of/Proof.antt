@@ -4,8 +4,7 @@ use mathlib.Core.Path.{sym, ap, _∙_}
 use lib.ListN.{getD}
 use denote.Ref.{now}
 use Rattle.theory.specs.number.Bytes.{le-part}
-use Rattle.layout.specs.declared.numbers.Numbers.{Numbers}
-use Rattle.check_list.specs.Report.{numbersOf}
+use Rattle.theory.specs.Report.{lenOf, qbitsOf, rbitsOf, maxOf}
 use borrow.Author.Needs.{needs}
 use Rattle.check_list.proofs.report.numbers_of.Statement.{statement}
 use Rattle.check_list.proofs.report.numbers_of.Tie as tie
@@ -23,7 +22,7 @@ shared-slice-read-t8 : tie.Need-shared-slice-read-t8
 shared-slice-read-t8 c = search needs
 
 returns : tie.Need-returns
-unfolding numbersOf
+unfolding lenOf qbitsOf rbitsOf maxOf
 returns c =
     let s = now (c .before .before .before .before .before .args .input) in
     ap (λ (x : ℕ). record { len = x; qbits = getD s 10 0; rbits = getD s 11 0; «max_qbits» = getD s 12 0 }) (c .before .before .before .read64 .ensures ∙ sym (le-part 8 2 s))

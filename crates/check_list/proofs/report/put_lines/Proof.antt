@@ -6,14 +6,15 @@ use mathlib.Core.List.{List}
 use native.Mathlib.Omega.{arith}
 use lib.ListN.{length, take, drop, length-take, length-drop}
 use lib.Seq.{take-all}
+use Rattle.theory.specs.Text.{lines}
+use Rattle.theory.specs.program.Answers.{same-held}
 use Rattle.layout.specs.declared.numbers.Numbers.{Numbers}
-use Rattle.filter.specs.declared.listing.Place.{Place}
 use Rattle.layout.specs.Verdicts.{SoundOf}
+use Rattle.filter.specs.declared.listing.Place.{Place}
 use Rattle.filter.specs.Places.{placeOf, place-left}
-use Rattle.check_list.specs.Text.{lines, Written}
+use Rattle.check_list.specs.Written.{Written}
 use Rattle.check_list.specs.Steps.{PutStep}
 use Rattle.check_list.proofs.Filled.{written-none, written-as, written-more, written-length, rest}
-use Rattle.check_list.specs.Answers.{same-held}
 use Rattle.check_list.proofs.Lines.{lines-length, lines-next}
 use borrow.Rule.Slice.PartMut.{putMid}
 use borrow.Author.Needs.{needs}
@@ -119,7 +120,7 @@ same-length c = same _ _ _ _ _ _ (going (c .before .before))
 returns : tie.Need-returns Inv-loop μ-loop
 returns c h =
     let g = going (c .before .before) in
-    let e : take (g .k) (g .sound .held) ≡ h .held = take-all (g .k) (g .sound .held) (omega (arith, left _ _ _ _ _ _ g)) ∙ same-held _ _ (g .sound) h in
+    let e : take (g .k) (g .sound .held) ≡ h .held = take-all (g .k) (g .sound .held) (omega (arith, left _ _ _ _ _ _ g)) ∙ same-held _ _ _ _ _ (g .sound) h in
     written-as _ _ _ _ (g .text) _ (ap lines e)
 
 pub put-lines-spec : {M : Type 1} → statement M

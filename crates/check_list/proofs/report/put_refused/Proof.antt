@@ -1,8 +1,8 @@
 -- `check_list::report::put_refused`: the line fits. Assumes nothing.
 use native.Mathlib.Omega.{arith}
 use native.Mathlib.Nat.{le-trans}
-use Rattle.check_list.specs.Text.{ascii}
-use Rattle.check_list.specs.Report.{refused}
+use Rattle.theory.specs.Text.{ascii}
+use Rattle.theory.specs.Report.{refused}
 use Rattle.check_list.proofs.Numerals.{headline-short}
 use borrow.Author.Needs.{needs}
 use Rattle.check_list.proofs.report.put_refused.Statement.{statement}

@@ -4,8 +4,8 @@ use mathlib.Core.Path.{_≡_, ap}
 use native.Mathlib.Omega.{arith}
 use native.Mathlib.Nat.{le-trans}
 use lib.ListN.{length, length-drop}
-use Rattle.check_list.specs.Text.{ascii}
-use Rattle.check_list.specs.Report.{sound}
+use Rattle.theory.specs.Text.{ascii}
+use Rattle.theory.specs.Report.{sound}
 use Rattle.check_list.proofs.Filled.{written-more, written-length, rest}
 use Rattle.check_list.proofs.Lines.{lines-length}
 use Rattle.check_list.proofs.Numerals.{headline-short}

@@ -8,14 +8,14 @@ use denote.Ref.{now}
 use denote.Enum.Declared.{tagOf}
 use types.Run.{OneOf}
 use lib.ListN.{length, getD}
+use Rattle.theory.specs.Text.{line}
+use Rattle.layout.specs.Verdicts.{lowestDue}
 use Rattle.filter.proofs.listing.Step.{the-type}
 use Rattle.filter.specs.declared.listing.Step.{Step}
 use Rattle.filter.specs.declared.listing.Step.the-variants.{Fingerprint}
 use Rattle.filter.specs.declared.listing.Stepped.{Stepped}
-use Rattle.layout.specs.Verdicts.{lowestDue}
-use Rattle.filter.specs.Listing.{HoldsOf}
+use Rattle.filter.specs.Listing.{HoldsOf, listed-step}
 use Rattle.filter.specs.Places.{stepped, placeOf, step-some}
-use Rattle.check_list.specs.Text.{line, Written}
 use Rattle.check_list.proofs.Filled.{written-as, written-count}
 use Rattle.check_list.proofs.Lines.{line-length}
 use borrow.Author.Needs.{needs}
@@ -31,7 +31,7 @@ told : (c : tie.After-step-from) → lowestDue (c .before .before .before .args 
     → (l : List ℕ) → HoldsOf (c .before .before .before .args .n) (now (c .before .before .before .args .buf)) l → (k : ℕ) → k < length l
     → c .before .before .before .args .place ≡ placeOf (c .before .before .before .args .n .qbits) (c .before .before .before .args .n .rbits) l k
     → c .step-from .result ≡ stepped (Fingerprint (getD l k 0)) (placeOf (c .before .before .before .args .n .qbits) (c .before .before .before .args .n .rbits) l (suc k))
-told c e l h k b p = c .step-from .ensures .right e l h k p ∙ step-some _ _ l k b
+told c e l h k b p = listed-step _ _ l e h _ _ (c .step-from .ensures) k p ∙ step-some _ _ l k b
 
 step-from-requires : tie.Need-step-from-requires
 step-from-requires c κs = search needs

@@ -6,12 +6,13 @@ use native.Mathlib.Omega.{arith}
 use lib.ListN.{length, take, drop}
 use denote.Ref.{now}
 use Rattle.theory.specs.Shape.{slots}
+use Rattle.theory.specs.Report.{headerDue, maxQbits, refused}
+use Rattle.theory.specs.program.Asked.{none-header}
+use Rattle.theory.specs.program.Answers.{part, report-header}
 use Rattle.filter.specs.declared.listing.Begun.the-variants as begun
 use Rattle.filter.specs.Listing.{Begins}
-use Rattle.check_list.specs.Report.{numbersOf, headerDue, maxQbits, refused}
 use Rattle.check_list.specs.Steps.{Ready}
-use Rattle.check_list.specs.Asked.{none-header}
-use Rattle.check_list.specs.Answers.{part, report-header, report-refused, report-ready, report-sound, report-few}
+use Rattle.check_list.specs.Beginning.{text-refused, text-sound, text-few, begun-ready}
 use Rattle.check_list.proofs.Filled.{written-as}
 use borrow.Author.Needs.{needs}
 use Rattle.check_list.proofs.report.report.Statement.{statement}
@@ -24,7 +25,7 @@ abbrev part-of : List ℕ → List ℕ
 part-of s = take (length s - 13) (drop 13 s)
 
 -- none of 13, 1 and 14 is due
-none : (c : tie.Else1) → headerDue (input (c .before .before .before)) (numbersOf (input (c .before .before .before))) ≡ 0
+none : (c : tie.Else1) → headerDue (input (c .before .before .before)) ≡ 0
 none c = sym (c .before .header-due .ensures) ∙ omega arith
 
 header-due-requires : tie.Need-header-due-requires
@@ -39,10 +40,10 @@ returns c =
     written-as _ _ _ _ (c .put-refused .ensures) _ (ap refused h ∙ sym (report-header _ (omega (arith, h))))
 
 numbers-of-requires : tie.Need-numbers-of-requires
-numbers-of-requires c κs = none-header _ _ (none c) .0
+numbers-of-requires c κs = none-header _ (none c) .0
 
 sub-buf : tie.Need-sub-buf
-sub-buf c = none-header _ _ (none (c .before)) .0
+sub-buf c = none-header _ (none (c .before)) .0
 
 part-buf-start : tie.Need-part-buf-start
 part-buf-start c = sub-buf c
@@ -64,10 +65,7 @@ enum-known-begun-2 c = search needs
 
 -- the beginning gave a place
 ready : (c : tie.After-begun2) → Ready (c .before .before .before .before .numbers-of .result) (part-of (input (c .before .before .before .before .before .before .before .before))) (c .begun2 .given .0 .0)
-ready c =
-    let k = c .before .before .before .before in
-    let s = input (k .before .before .before .before) in
-    report-ready s _ _ (k .numbers-of .ensures) (part s) (none (k .before)) _ (subst (Begins _ _) (c .begun2 .given .1) (c .before .before .begin .ensures))
+ready c = begun-ready _ _ _ (subst (Begins _ _) (c .begun2 .given .1) (c .before .before .begin .ensures))
 
 put-sound-requires : tie.Need-put-sound-requires
 unfolding maxQbits slots
@@ -75,7 +73,7 @@ put-sound-requires c κs =
     let r = ready (c .before .before) in
     let k = c .before .before .before .before .before .before in
     let s = input (k .before .before .before .before) in
-    (r, omega (arith, report-few s _ _ (k .numbers-of .ensures) (part s) (none (k .before)) (r .sound)))
+    (r, omega (arith, text-few s _ _ (k .numbers-of .ensures) (part s) (none (k .before)) (r .sound)))
 
 returns-2 : tie.Need-returns-2
 returns-2 c =
@@ -83,7 +81,7 @@ returns-2 c =
     let k = b .before .before .before .before in
     let s = input (k .before .before .before .before) in
     let a = subst (Begins _ _) (b .begun .given .1) (b .before .before .begin .ensures) in
-    written-as _ _ _ _ (c .put-refused2 .ensures) _ (sym (report-refused s _ _ (k .numbers-of .ensures) (part s) (none (k .before)) _ a))
+    written-as _ _ _ _ (c .put-refused2 .ensures) _ (sym (text-refused s _ _ (k .numbers-of .ensures) (part s) (none (k .before)) _ a))
 
 returns-3 : tie.Need-returns-3
 returns-3 c =
@@ -91,7 +89,7 @@ returns-3 c =
     let k = b .before .before .before .before in
     let s = input (k .before .before .before .before) in
     let h = ready b .sound in
-    written-as _ _ _ _ (c .put-sound .ensures h) _ (sym (report-sound s _ _ (k .numbers-of .ensures) (part s) (none (k .before)) h))
+    written-as _ _ _ _ (c .put-sound .ensures h) _ (sym (text-sound s _ _ (k .numbers-of .ensures) (part s) (none (k .before)) h))
 
 pub report-spec : {M : Type 1} → statement M
 report-spec =

@@ -1,10 +1,10 @@
 -- `check_list::text::put_decimal`, which calls itself with all digits but the last: the measure is the number. Assumes nothing.
-use Prim.Native.Nat.{ℕ, _/_, _%_, _≤_, _<_}
-use mathlib.Core.Path.{_≡_, refl, sym, ap, _∙_}
+use Prim.Native.Nat.{ℕ, _/_, _<_}
+use mathlib.Core.Path.{_≡_, sym, ap, _∙_}
 use mathlib.Core.List.{[], _∷_, _++_}
 use native.Mathlib.Omega.{arith}
-use lib.ListN.{length, length-set, length-append}
-use Rattle.check_list.specs.Text.{digit, decimal}
+use lib.ListN.{length, length-set}
+use Rattle.theory.specs.Text.{digit, decimal}
 use Rattle.check_list.proofs.Filled.{written-none, written-as, written-byte, written-length}
 use Rattle.check_list.proofs.Numerals.{decimal-small, decimal-more, more-length}
 use borrow.Fn.Kinds.{In}

@@ -6,7 +6,7 @@ use native.Mathlib.Numerals.{add-one}
 use mathlib.Core.List.{[], _∷_, _++_}
 use lib.ListN.{length, take, getD}
 use lib.Seq.{take-suc, take-length}
-use Rattle.check_list.specs.Text.{Written}
+use Rattle.check_list.specs.Written.{Written}
 use Rattle.check_list.proofs.Filled.{written-none, written-as, written-byte, written-length}
 use borrow.Author.Needs.{needs}
 use Rattle.check_list.proofs.text.put_bytes.Statement.{statement}

@@ -4,7 +4,8 @@ use mathlib.Core.Path.{_≡_, ap, _∙_}
 use mathlib.Core.List.{List, [], _∷_, _++_, append-assoc}
 use native.Mathlib.Omega.{arith}
 use lib.ListN.{length, set, length-set, length-drop}
-use Rattle.check_list.specs.Text.{ascii, decimal, headline, Written}
+use Rattle.theory.specs.Text.{ascii, decimal, headline}
+use Rattle.check_list.specs.Written.{Written}
 use Rattle.check_list.proofs.Filled.{written-as, written-byte, written-more, written-length, rest}
 use Rattle.check_list.proofs.Numerals.{headline-length}
 use borrow.Rule.Slice.PartMut.{putMid}

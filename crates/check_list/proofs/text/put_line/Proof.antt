@@ -5,11 +5,11 @@ use mathlib.Core.List.{[], _∷_, _++_}
 use native.Mathlib.Omega.{arith}
 use native.Mathlib.Nat.{div-one}
 use native.Mathlib.Numerals.{add-one}
-use lib.ListN.{length, length-set}
-use Rattle.check_list.specs.Text.{ascii, hex, line, Written}
+use lib.ListN.{length-set}
+use Rattle.theory.specs.Text.{ascii, hex, line}
+use Rattle.check_list.specs.Written.{Written}
 use Rattle.check_list.proofs.Filled.{written-none, written-as, written-byte, written-length}
 use Rattle.check_list.proofs.Numerals.{hex-next}
-use borrow.Author.Needs.{needs}
 use Rattle.check_list.proofs.text.put_line.Statement.{statement}
 use Rattle.check_list.proofs.text.put_line.Tie as tie
 

@@ -2,11 +2,9 @@
 use Prim.Native.Nat.{ℕ, zero, suc, _+_, _-_, _/_, _%_}
 use Prim.Native.Char.{code}
 use Prim.Native.String.{String, [] as none, _∷_ as _then_}
-use mathlib.Core.Path.{_≡_, sym, ap, _∙_}
 use mathlib.Core.List.{List, [], _∷_, _++_}
 use native.Mathlib.Decide.{decLt}
-use lib.ListN.{length, drop}
 use Rattle.theory.specs.tools.Choose.{choose}
 
 -- a quoted text
 unfoldable pub ascii : String → List ℕ
@@ -27,6 +25,7 @@ unfoldable pub decimalIn : ℕ → ℕ → List ℕ
 decimalIn zero n = []
 decimalIn (suc k) n = choose (decLt n 10) (digit n ∷ []) (decimalIn k (n / 10) ++ (digit (n % 10) ∷ []))
 
+-- n in decimal
 unfoldable pub decimal : ℕ → List ℕ
 decimal n = decimalIn (suc n) n
 
@@ -42,14 +41,3 @@ line f = hex 16 f ++ ascii "\n"
 unfoldable pub lines : List ℕ → List ℕ
 lines [] = []
 lines (f ∷ l) = line f ++ lines l
-
--- a text stands at the start of a buffer, and the bytes behind it are as they were
-pub record Written (text before after : List ℕ) (count : ℕ) : Type 0 where
-  pub many : count ≡ length text
-  pub whole : after ≡ text ++ drop count before
-
--- two outcomes that keep such a promise coincide
-pub written-one : (text before a b : List ℕ) (i j : ℕ) → Written text before a i → Written text before b j → (a ≡ b) × (i ≡ j)
-written-one text before a b i j v w =
-    let e : i ≡ j = v .many ∙ sym (w .many) in
-    (v .whole ∙ ap (λ (k : ℕ). text ++ drop k before) e ∙ sym (w .whole), e)

@@ -1,27 +1,25 @@
 -- The header, the largest buffer and one byte more are enough: what stands behind them changes nothing of the text, so the program reads no
 -- further. Assumes nothing.
-use Prim.Native.Nat.{ℕ, zero, suc, _+_, _-_, _*_, _%_, _^_, _≤_, _<_}
-use mathlib.Core.Path.{_≡_, refl, sym, ap, _∙_}
+use Prim.Native.Nat.{ℕ, zero, suc, _+_, _-_, _*_, _≤_, _<_}
+use mathlib.Core.Path.{_≡_, sym, ap, _∙_}
 use mathlib.Core.Logic.{_⊎_, inl, inr}
 use mathlib.Core.List.{List}
 use native.Mathlib.Omega.{arith}
-use native.Mathlib.Decide.{decLt, ℕ-discrete}
+use native.Mathlib.Decide.{decLt}
 use native.Mathlib.Nat.{add-zero, add-suc, pow-suc, mul-assoc, mul-left-comm, mul-le-mul-left, eq-zero-or-pos}
 use lib.ListN.{length, take, drop, getD, length-drop}
 use lib.Seq.{take-all, length-take-le, getD-take}
 use Rattle.theory.specs.tools.Choose.{choose-no}
 use Rattle.theory.specs.Shape.{slots, blocks, bytes, Widths}
-use Rattle.theory.specs.number.Bytes.{le-part, le-take}
-use Rattle.theory.specs.number.Field.{field, field-mod}
 use Rattle.theory.specs.layout.Sizes.{slots-blocks}
 use Rattle.theory.specs.check.Refusals.{else-none, due-size}
-use Rattle.layout.specs.declared.numbers.Numbers.{Numbers}
-use Rattle.check_list.specs.Report.{numbersOf, bufferOf, maxQbits, headerDue, numberDue, markDue, refused, reportOf}
-use Rattle.check_list.specs.Asked.{none-header}
-use Rattle.check_list.specs.Answers.{report-header, report-number}
+use Rattle.theory.specs.Report.{lenOf, qbitsOf, rbitsOf, maxOf, headerBytes, bufferOf, maxQbits, headerDue, numberDue, markDue, refused, reportOf}
+use Rattle.theory.specs.program.Asked.{none-header}
+use Rattle.theory.specs.program.Answers.{report-header, report-number}
 
+-- as many bytes of the input
 unfoldable pub enough : ℕ
-enough = 13 + bytes maxQbits (64 - maxQbits) + 1
+enough = headerBytes + bytes maxQbits (64 - maxQbits) + 1
 
 -- ---- the largest buffer of some qbits is smaller than that of one more
 blocks-next : (q : ℕ) → 6 ≤ q → blocks (suc q) ≡ 2 * blocks q
@@ -53,14 +51,13 @@ largest q r w h m =
     omega (arith, bytes-most q r w, rw e at (bytes-up (maxQbits - q) q (w .low) (omega arith)))
 
 -- ---- an input of as many bytes or more has no buffer that fits
-too-long : (s : List ℕ) → enough ≤ length s → headerDue s (numbersOf s) ≡ 0 → reportOf s ≡ refused 2
+too-long : (s : List ℕ) → enough ≤ length s → headerDue s ≡ 0 → reportOf s ≡ refused 2
 unfolding enough maxQbits bufferOf numberDue
 too-long s long none =
-    let n = numbersOf s in
-    let c = none-header s n none in
-    let b = largest (n .qbits) (n .rbits) (c .1) (c .2) (omega arith) in
-    let e : numberDue s n ≡ 2 =
-    else-none (headerDue s n) _ none ∙ due-size (n .qbits) (n .rbits) (n .len) (n .«max_qbits») (length (drop 13 s)) (λ z. omega (arith, b, length-drop 13 s)) in
+    let c = none-header s none in
+    let b = largest (qbitsOf s) (rbitsOf s) (c .1) (c .2) (omega arith) in
+    let e : numberDue s ≡ 2 =
+    else-none (headerDue s) _ none ∙ due-size (qbitsOf s) (rbitsOf s) (lenOf s) (maxOf s) (length (drop headerBytes s)) (λ z. omega (arith, b, length-drop headerBytes s)) in
     report-number s (omega (arith, e)) ∙ ap refused e
 
 -- ---- and the header is the same
@@ -68,39 +65,24 @@ module _ (s : List ℕ) (long : enough ≤ length s) where
   size : length (take enough s) ≡ enough
   size = length-take-le enough s long
 
-  kept : (i : ℕ) → i < 13 → getD (take enough s) i 0 ≡ getD s i 0
+  kept : (i : ℕ) → i < headerBytes → getD (take enough s) i 0 ≡ getD s i 0
   unfolding enough
   kept i h = getD-take enough s i 0 (omega arith)
-
-  same-len : numbersOf (take enough s) .len ≡ numbersOf s .len
-  unfolding numbersOf enough
-  same-len =
-      le-part 8 2 (take enough s) ∙ ap (λ (x : ℕ). field x 16 64) (le-take enough s)
-      ∙ field-mod _ (8 * enough) 16 64 (omega arith) ∙ sym (le-part 8 2 s)
-
-  same-numbers : numbersOf (take enough s) ≡ numbersOf s
-  unfolding numbersOf
-  same-numbers = λ i. record {
-    len = same-len i;
-    qbits = kept 10 (omega arith) i;
-    rbits = kept 11 (omega arith) i;
-    «max_qbits» = kept 12 (omega arith) i;
-  }
 
   same-mark : markDue (take enough s) ≡ markDue s
   unfolding markDue enough
   same-mark =
-      choose-no (decLt (length (take enough s)) 13) _ _ (λ h. omega (arith, size)) ∙ rw (kept 0 (omega arith), kept 1 (omega arith))
-      (sym (choose-no (decLt (length s) 13) _ _ (λ h. omega arith)))
+      choose-no (decLt (length (take enough s)) headerBytes) _ _ (λ h. omega (arith, size)) ∙ rw (kept 0 (omega arith), kept 1 (omega arith))
+      (sym (choose-no (decLt (length s) headerBytes) _ _ (λ h. omega arith)))
 
-  same-header : headerDue (take enough s) (numbersOf (take enough s)) ≡ headerDue s (numbersOf s)
-  unfolding headerDue
-  same-header = rw (same-numbers, same-mark)
+  same-header : headerDue (take enough s) ≡ headerDue s
+  unfolding headerDue qbitsOf rbitsOf
+  same-header = rw (same-mark, kept 10 (omega arith), kept 11 (omega arith))
 
   cut : reportOf (take enough s) ≡ reportOf s
-  cut = go (eq-zero-or-pos (headerDue s (numbersOf s)))
+  cut = go (eq-zero-or-pos (headerDue s))
     where
-      go : (headerDue s (numbersOf s) ≡ 0) ⊎ (0 < headerDue s (numbersOf s)) → reportOf (take enough s) ≡ reportOf s
+      go : (headerDue s ≡ 0) ⊎ (0 < headerDue s) → reportOf (take enough s) ≡ reportOf s
       go (inl e) = too-long (take enough s) (omega (arith, size)) (same-header ∙ e) ∙ sym (too-long s long e)
       go (inr d) =
           report-header (take enough s) (omega (arith, same-header)) ∙ ap refused same-header ∙ sym (report-header s d)

@@ -1,0 +1,4 @@
+pub mod Answers
+pub mod Asked
+pub mod Enough
+pub mod Files

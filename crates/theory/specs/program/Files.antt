@@ -1,0 +1,61 @@
+-- Every list with qbits up to the limit has a file, and for that file the program writes the list: an impostor that always refuses fails.
+-- Assumes nothing.
+use Prim.Native.Nat.{ℕ, _^_, _≤_, _<_}
+use mathlib.Core.Path.{_≡_, refl, _∙_}
+use mathlib.Core.List.{List, _∷_, _++_}
+use native.Mathlib.Omega.{arith}
+use lib.ListN.{length}
+use lib.Pow.{pow-mono}
+use Rattle.theory.specs.number.Bytes.{toBytes, le-toBytes}
+use Rattle.theory.specs.Shape.{slots, Widths}
+use Rattle.theory.specs.Holding.{Holding}
+use Rattle.theory.specs.Image.{image}
+use Rattle.theory.specs.Refusal.{due}
+use Rattle.theory.specs.Sound.{Holds}
+use Rattle.theory.specs.Report.{lenOf, qbitsOf, rbitsOf, maxOf, bufferOf, markDue, maxQbits, headerDue, sound, reportOf}
+use Rattle.theory.specs.check.Promises.{a-filter}
+use Rattle.theory.specs.check.Refusals.{widths-none}
+use Rattle.theory.specs.program.Asked.{mark-none, header-limit, limit-none}
+use Rattle.theory.specs.program.Answers.{report-checked}
+
+-- the mark, len, qbits, rbits, max_qbits and the buffer
+unfoldable pub fileOf : ℕ → ℕ → ℕ → ℕ → List ℕ → List ℕ
+fileOf len q r mx b = 0x51 ∷ 0x46 ∷ (toBytes 8 len ++ (q ∷ r ∷ mx ∷ b))
+
+module _ (len q r mx : ℕ) (b : List ℕ) where
+  len-back : len < 2 ^ 64 → lenOf (fileOf len q r mx b) ≡ len
+  unfolding lenOf fileOf toBytes
+  len-back h = le-toBytes 8 len h
+
+  qbits-back : qbitsOf (fileOf len q r mx b) ≡ q
+  unfolding qbitsOf fileOf toBytes
+  qbits-back = refl
+
+  rbits-back : rbitsOf (fileOf len q r mx b) ≡ r
+  unfolding rbitsOf fileOf toBytes
+  rbits-back = refl
+
+  max-back : maxOf (fileOf len q r mx b) ≡ mx
+  unfolding maxOf fileOf toBytes
+  max-back = refl
+
+  buffer-back : bufferOf (fileOf len q r mx b) ≡ b
+  unfolding bufferOf fileOf toBytes
+  buffer-back = refl
+
+  marked : markDue (fileOf len q r mx b) ≡ 0
+  unfolding fileOf toBytes
+  marked = mark-none (fileOf len q r mx b) (omega arith) refl refl
+
+  -- a sound list
+  sound-file : len < 2 ^ 64 → q ≤ maxQbits → Widths q r → due q r len mx (length b) ≡ 0 → (l : List ℕ) → Holds q r len b l → reportOf (fileOf len q r mx b) ≡ sound len l
+  sound-file word m w e l h =
+      let none : headerDue (fileOf len q r mx b) ≡ 0 = header-limit (fileOf len q r mx b) marked (rw (qbits-back, rbits-back) (widths-none q r w)) ∙ rw qbits-back (limit-none q m) in
+      let c = rw (qbits-back, rbits-back, len-back word, max-back, buffer-back) at (report-checked (fileOf len q r mx b) none) in
+      c .sound e l h
+
+-- every holding
+pub list-file : (q r : ℕ) (l : List ℕ) → q ≤ maxQbits → Widths q r → Holding (slots q) (2 ^ r) l → reportOf (fileOf (length l) q r 0 (image q r l)) ≡ sound (length l) l
+unfolding slots maxQbits
+list-file q r l m w h =
+    sound-file (length l) q r 0 (image q r l) (omega (arith, h .fewer, pow-mono m)) m w (a-filter q r l w h .none) l (record { holding = h; many = refl; bytes = refl })
