@@ -1,13 +1,11 @@
 -- Answers of a listing as plain structs.
 use Prim.Native.Nat.{ℕ}
-use mathlib.Core.Path.{_≡_}
 use mathlib.Core.List.{List}
 use Rattle.theory.specs.Answer.{number, values, noNext}
 use Rattle.layout.specs.declared.numbers.Numbers.{Numbers}
 use Rattle.filter.specs.declared.listing.Place.{Place}
 use Rattle.filter.specs.declared.listing.Begun.{Begun}
 use Rattle.filter.specs.declared.listing.Step.{Step}
-use Rattle.filter.specs.declared.listing.Stepped.{Stepped}
 use Rattle.filter.specs.Says.{begunSays, stepSays}
 use Rattle.filter.specs.Places.{nowhere}
 use Rattle.filter.specs.Listing.{Begins, Listed}

@@ -1,6 +1,5 @@
 -- The answer of merge as a plain struct.
 use Prim.Native.Nat.{ℕ}
-use mathlib.Core.Path.{_≡_}
 use mathlib.Core.List.{List}
 use Rattle.layout.specs.declared.numbers.Numbers.{Numbers}
 use Rattle.growth.specs.Merging.{Merges}

@@ -17,7 +17,6 @@ use Rattle.filter.specs.Listing.{Begins, Listed}
 use Rattle.filter.specs.Pinned.{Settled, Fixed, contains-fingerprint-pinned, contains-fingerprint-quick-pinned, count-fingerprint-pinned, count-fingerprint-quick-pinned, begin-pinned, step-from-pinned}
 use Rattle.writing.specs.Writing.{Insert, InsertQuick, Remove, RemoveQuick}
 use Rattle.writing.specs.Pinned.{insert-fingerprint-counting-pinned, insert-fingerprint-counting-quick-pinned, remove-fingerprint-pinned, remove-fingerprint-quick-pinned}
-use Rattle.growth.specs.declared.spare.Placed.{Placed}
 use Rattle.growth.specs.Rebuilding.{Grows}
 use Rattle.growth.specs.Merging.{Merges}
 use Rattle.growth.specs.Spare.{InsertSpare, InsertSpareQuick}

@@ -1,6 +1,5 @@
 -- Answers as plain structs: each enum case with its number of document 01 and its values.
-use Prim.Native.Nat.{ℕ, _^_, _<_}
-use mathlib.Core.Path.{_≡_}
+use Prim.Native.Nat.{ℕ, _^_}
 use mathlib.Core.Bool.{false}
 use mathlib.Core.List.{List}
 use lib.IntN.{pos}
@@ -9,7 +8,6 @@ use Rattle.theory.specs.Shape.{bytes}
 use Rattle.bits.specs.Select.{Selected}
 use Rattle.bits.specs.declared.select.Found.{Found}
 use Rattle.bits.specs.declared.select.Found.the-variants as found
-use Rattle.layout.specs.declared.numbers.Numbers.{Numbers}
 use Rattle.layout.specs.declared.planning.Needed.{Needed}
 use Rattle.layout.specs.declared.planning.Needed.the-variants as needed
 use Rattle.layout.specs.declared.planning.Specified.{Specified}

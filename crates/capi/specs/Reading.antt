@@ -1,6 +1,5 @@
 -- Answers of the check, lookup and count as plain structs.
 use Prim.Native.Nat.{ℕ}
-use mathlib.Core.Path.{_≡_}
 use mathlib.Core.List.{List}
 use Rattle.theory.specs.Answer.{number, values, notLooked}
 use Rattle.layout.specs.declared.numbers.Numbers.{Numbers}

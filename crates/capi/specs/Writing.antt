@@ -1,6 +1,5 @@
 -- Answers of insert and remove as plain structs; a refusal gives back the record as given.
 use Prim.Native.Nat.{ℕ}
-use mathlib.Core.Path.{_≡_}
 use mathlib.Core.List.{List}
 use Rattle.theory.specs.Answer.{Answer, number, values}
 use Rattle.layout.specs.declared.numbers.Numbers.{Numbers}

@@ -1,6 +1,6 @@
 -- What follows of the promises of lookup and count: filters that hold a fingerprint equally often answer alike, no lookup compares more than n(q) remainders, and one of an
 -- absent fingerprint compares them all; a quick call equals the checked one on every sound buffer. Assumes nothing.
-use Prim.Native.Nat.{ℕ, _+_, _%_, _/_, _^_, _≤_, _<_, min}
+use Prim.Native.Nat.{ℕ, _+_, _%_, _/_, _^_, _≤_, min}
 use mathlib.Core.Path.{_≡_, sym, ap, _∙_}
 use mathlib.Core.List.{List}
 use native.Mathlib.Omega.{arith}

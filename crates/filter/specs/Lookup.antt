@@ -1,5 +1,5 @@
 -- Lookup and count of document 01.
-use Prim.Native.Nat.{ℕ, suc, _+_, _*_, _/_, _%_, _^_, _≤_, _<_}
+use Prim.Native.Nat.{ℕ, _/_, _%_, _^_, _<_}
 use mathlib.Core.Path.{_≡_, sym, ap, _∙_}
 use native.Mathlib.Omega.{arith}
 use native.Mathlib.Decide.{decLe, decLt}
@@ -11,7 +11,7 @@ use Rattle.theory.specs.Holding.{Holding, run, copies, seek}
 use Rattle.theory.specs.number.Bytes.{le}
 use Rattle.theory.specs.layout.Block.{views}
 use Rattle.theory.specs.Image.{Views, many, occ}
-use Rattle.theory.specs.tools.Choose.{choose, choose-no}
+use Rattle.theory.specs.tools.Choose.{choose-no}
 use Rattle.theory.specs.list.Seek.{seek-le, copies-run}
 use Rattle.theory.specs.list.Copies.{copies-le}
 use Rattle.theory.specs.layout.Views.{Image, many-at}

@@ -1,11 +1,11 @@
 -- What a merge inserts, list by list, and what needs capacity. Assumes nothing.
-use Prim.Native.Nat.{ℕ, zero, suc, _+_, _-_, _^_, _≤_, _<_, max}
+use Prim.Native.Nat.{ℕ, zero, suc, _+_, _^_, _≤_, _<_, max}
 use mathlib.Core.Path.{_≡_, refl, ap, _∙_}
 use mathlib.Core.Logic.{_≢_}
 use mathlib.Core.List.{List, [], map}
 use native.Mathlib.Omega.{arith}
 use lib.ListN.{length, length-map}
-use Rattle.theory.specs.Shape.{capacity, fingerprint}
+use Rattle.theory.specs.Shape.{fingerprint}
 use Rattle.theory.specs.Holding.{Ascending, Under}
 use Rattle.theory.specs.Changing.{allowed}
 use Rattle.theory.specs.Joining.{addedOnce, joined, taken, wanted}

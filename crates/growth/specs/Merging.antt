@@ -6,7 +6,6 @@ use mathlib.Core.List.{List}
 use native.Mathlib.Omega.{arith}
 use lib.ListN.{length}
 use Rattle.theory.specs.Answer.{refuses}
-use Rattle.theory.specs.Shape.{capacity}
 use Rattle.theory.specs.Refusal.{destinationDue, orElse}
 use Rattle.theory.specs.Sound.{Holds}
 use Rattle.theory.specs.Joining.{joined, taken, wanted, joinedQbits, joinedDue, takenDue}

@@ -1,23 +1,22 @@
 -- The promises of growth, document 01, and what every rebuild into a lent destination comes to.
-use Prim.Native.Nat.{ℕ, suc, _+_, _-_, _*_, _^_, _≤_, _<_}
+use Prim.Native.Nat.{ℕ, _+_, _-_, _*_, _^_, _≤_, _<_}
 use mathlib.Core.Path.{_≡_, refl, sym, ap, subst, _∙_}
 use mathlib.Core.Logic.{_≢_}
-use mathlib.Core.List.{List, [], map}
+use mathlib.Core.List.{List, []}
 use native.Mathlib.Omega.{arith}
 use native.Mathlib.Decide.{decLe, ℕ-discrete}
 use lib.ListN.{length}
 use lib.Pow.{pow-add}
 use Rattle.theory.specs.tools.Choose.{choose-yes, choose-no}
-use Rattle.theory.specs.Shape.{Widths, slots, capacity, blocks, bytes, fingerprint}
-use Rattle.theory.specs.Holding.{Holding, Ascending, Under}
+use Rattle.theory.specs.Shape.{Widths, slots, capacity, bytes}
+use Rattle.theory.specs.Holding.{Under}
 use Rattle.theory.specs.Answer.{Answer, gives, refuses}
 use Rattle.theory.specs.Changing.{allowed}
 use Rattle.theory.specs.Image.{image}
 use Rattle.theory.specs.Refusal.{maxDue, destinationDue, orElse}
 use Rattle.theory.specs.Sound.{Holds}
 use Rattle.theory.specs.Joining.{added, growthDue}
-use Rattle.theory.specs.number.Bytes.{Bytes, le}
-use Rattle.theory.specs.layout.Block.{tailAt}
+use Rattle.theory.specs.number.Bytes.{Bytes}
 use Rattle.theory.specs.layout.Images.{image-tail}
 use Rattle.theory.specs.layout.IsImage.{is-image, image-is}
 use Rattle.theory.specs.list.Changed.{allowed-high}

@@ -1,9 +1,9 @@
 -- What taking a list's fingerprints in comes to: each is inserted as by the rule of insert, cut to the width of the buffer that it goes to.
-use Prim.Native.Nat.{ℕ, zero, suc, _+_, _-_, _^_, _≤_, _<_}
+use Prim.Native.Nat.{ℕ, suc, _+_, _-_, _≤_, _<_}
 use mathlib.Core.Path.{_≡_, refl, sym, ap, subst, _∙_}
-use mathlib.Core.List.{List, [], _∷_, map}
+use mathlib.Core.List.{List, [], map}
 use native.Mathlib.Omega.{arith}
-use native.Mathlib.Decide.{decLe, decLt}
+use native.Mathlib.Decide.{decLe}
 use lib.ListN.{length, getD, drop}
 use lib.Seq.{drop-cons, drop-length}
 use Rattle.theory.specs.Answer.{Answer, values}

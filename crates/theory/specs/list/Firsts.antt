@@ -7,7 +7,7 @@ use native.Mathlib.Omega.{arith}
 use native.Mathlib.Decide.{ℕ-discrete}
 use lib.ListN.{length, getD, take}
 use lib.Seq.{take-length}
-use Rattle.theory.specs.Holding.{copies, more, Ascending}
+use Rattle.theory.specs.Holding.{copies, Ascending}
 use Rattle.theory.specs.Changing.{upTo}
 use Rattle.theory.specs.list.Changed.{up-to-by}
 use Rattle.theory.specs.list.Adding.{copies-once, once-length}

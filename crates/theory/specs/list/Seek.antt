@@ -1,15 +1,13 @@
 -- What lookup and listing say of the holding.
 -- Assumes nothing.
-use Prim.Native.Nat.{ℕ, zero, suc, _+_, _-_, _*_, _/_, _%_, _^_, _≤_, _<_, min, max}
-use mathlib.Core.Path.{_≡_, refl, sym, ap, ap₂, _∙_}
-use mathlib.Core.Logic.{_⊎_, inl, inr, _≢_}
+use Prim.Native.Nat.{ℕ, zero, suc, _+_, _*_, _/_, _%_, _≤_, _<_}
+use mathlib.Core.Path.{_≡_, refl, sym, ap, _∙_}
+use mathlib.Core.Logic.{_≢_}
 use mathlib.Core.List.{List, [], _∷_, _++_, map}
 use native.Mathlib.Omega.{arith}
-use native.Mathlib.Decide.{decLe, decLt, ℕ-discrete}
-use native.Mathlib.Nat.{add-zero, add-suc, zero-add, div-add-mod', mod-lt, pow-succ', one-le-pow, mod-one, div-lt-iff-lt-mul}
-use lib.Arith.{mod-mul}
-use lib.Count.{ones, ones-step, ones-cat}
-use lib.ListN.{length, getD, length-append, List·getD-append}
+use native.Mathlib.Decide.{ℕ-discrete}
+use native.Mathlib.Nat.{div-add-mod'}
+use lib.ListN.{length, getD, List·getD-append}
 use lib.Seq.{getD-append-add}
 use Rattle.theory.specs.tools.Choose.{choose, choose-no, choose-by}
 use Rattle.theory.specs.tools.Total.{total, total-suc, total-le}

@@ -1,15 +1,15 @@
 -- Fingerprints inserted one after the other, each only while fewer than c copies are there: with c = 1 absent ones are added once each, with a c
 -- that is out of reach all are added. Assumes nothing.
-use Prim.Native.Nat.{ℕ, suc, _+_, _^_, _≤_, _<_}
-use mathlib.Core.Path.{_≡_, refl, ap, ap₂, _∙_, sym}
+use Prim.Native.Nat.{ℕ, _+_, _^_, _≤_}
+use mathlib.Core.Path.{_≡_, refl, ap, ap₂, _∙_}
 use mathlib.Core.List.{List, [], _∷_, map}
 use native.Mathlib.Omega.{arith}
 use native.Mathlib.Nat.{mod-eq-of-lt}
 use lib.ListN.{length}
-use Rattle.theory.specs.Holding.{copies, more, Ascending, Under}
+use Rattle.theory.specs.Holding.{more, Ascending, Under}
 use Rattle.theory.specs.Shape.{fingerprint}
 use Rattle.theory.specs.Changing.{upTo}
-use Rattle.theory.specs.Joining.{added, addedOnce, joined}
+use Rattle.theory.specs.Joining.{added, addedOnce}
 use Rattle.theory.specs.list.Changed.{up-to-by, up-to-more}
 use Rattle.theory.specs.list.Copies.{copies-le, copies-nil, copies-tell}
 use Rattle.theory.specs.list.More.{more-length, more-ascending}

@@ -1,5 +1,5 @@
 -- `capi::growing::as_rebuilt`, case by case. Assumes nothing.
-use mathlib.Core.Path.{ap, sym, refl, _∙_, subst}
+use mathlib.Core.Path.{ap, sym}
 use Rattle.capi.specs.Growing.{rebuiltOf}
 use borrow.Author.Needs.{needs}
 use Rattle.capi.proofs.growing.as_rebuilt.Statement.{statement}

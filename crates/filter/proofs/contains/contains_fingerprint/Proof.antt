@@ -5,7 +5,7 @@ use Rattle.layout.specs.Verdicts.{Judged}
 use Rattle.layout.specs.Judging.{checked-refused, checked-sound, clear-whole}
 use Rattle.filter.specs.Says.{lookupSays}
 use Rattle.filter.specs.Asking.{looked}
-use Rattle.layout.specs.declared.check.Verdict.the-variants.{Sound, Refused}
+use Rattle.layout.specs.declared.check.Verdict.the-variants.{Sound}
 use borrow.Author.Needs.{needs}
 use Rattle.filter.proofs.contains.contains_fingerprint.Statement.{statement}
 use Rattle.filter.proofs.contains.contains_fingerprint.Tie as tie

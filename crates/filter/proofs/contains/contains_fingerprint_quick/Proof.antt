@@ -1,5 +1,4 @@
 -- `filter::contains::contains_fingerprint_quick`: a number of 1 to 5, or the core. Assumes nothing.
-use Prim.Native.Nat.{_<_}
 use mathlib.Core.Path.{_≡_, refl, ap, _∙_}
 use native.Mathlib.Omega.{arith}
 use denote.Ref.{now}

@@ -1,6 +1,5 @@
 -- `writing::writers::insert_fingerprint_counting_quick`: a number of 1 to 5, or the core. Assumes nothing.
-use Prim.Native.Nat.{_<_}
-use mathlib.Core.Path.{_≡_, refl, sym, _∙_}
+use mathlib.Core.Path.{_≡_, refl}
 use native.Mathlib.Omega.{arith}
 use denote.Ref.{now}
 use Rattle.layout.specs.Verdicts.{lowestDue}

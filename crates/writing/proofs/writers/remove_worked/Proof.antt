@@ -1,6 +1,5 @@
 -- `writing::writers::remove_worked`: the core's answer with the record afterwards (specs/Writing). Assumes nothing.
-use Prim.Native.Nat.{_+_}
-use mathlib.Core.Path.{_≡_, subst, ap, _∙_, sym}
+use mathlib.Core.Path.{subst, sym}
 use native.Mathlib.Omega.{arith}
 use denote.Ref.{now}
 use Rattle.layout.specs.Judging.{clear-whole}
