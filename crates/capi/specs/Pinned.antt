@@ -4,7 +4,7 @@ use Prim.Native.Nat.{ℕ}
 use mathlib.Core.Path.{_≡_, ap}
 use mathlib.Core.List.{List}
 use lib.Ieee.{Float}
-use Rattle.bits.specs.Select.{Selected, selected-unique}
+use Rattle.bits.specs.Select.{Selected, positionOf, selected-unique}
 use Rattle.layout.specs.declared.numbers.Numbers.{Numbers}
 use Rattle.layout.specs.Plans.{NeededAs, SpecifiedAs, PlannedAs}
 use Rattle.layout.specs.Shapes.{ShapedAs}
@@ -40,7 +40,7 @@ use Rattle.capi.specs.declared.growing.SpareAnswer.{SpareAnswer}
 
 -- ---- planning
 pub strumblay-select-pinned : (x n a b : ℕ) → planning.PositionOf x n a → planning.PositionOf x n b → a ≡ b
-strumblay-select-pinned x n = shown-one (Selected x n) planning.positionOf (selected-unique x n)
+strumblay-select-pinned x n = shown-one (Selected x n) (λ answer. planning.digitOf (positionOf answer)) (selected-unique x n)
 
 pub strumblay-slots-for-pinned : (c : ℕ) (a b : Outcome) → planning.NeededOutcome c a → planning.NeededOutcome c b → a ≡ b
 strumblay-slots-for-pinned c = shown-one (NeededAs c) planning.neededOf (needed-qbits-pinned c)

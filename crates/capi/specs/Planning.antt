@@ -5,9 +5,8 @@ use mathlib.Core.List.{List}
 use lib.IntN.{pos}
 use lib.Ieee.{Float, fin}
 use Rattle.theory.specs.Shape.{bytes}
-use Rattle.bits.specs.Select.{Selected}
-use Rattle.bits.specs.declared.select.Found.{Found}
-use Rattle.bits.specs.declared.select.Found.the-variants as found
+use Rattle.theory.specs.Select.{Position, place, none}
+use Rattle.bits.specs.Select.{Selected, positionOf}
 use Rattle.layout.specs.declared.planning.Needed.{Needed}
 use Rattle.layout.specs.declared.planning.Needed.the-variants as needed
 use Rattle.layout.specs.declared.planning.Specified.{Specified}
@@ -27,13 +26,13 @@ use Rattle.capi.specs.declared.planning.Specs.{Specs}
 use Rattle.capi.specs.declared.planning.Plan.{Plan}
 use Rattle.capi.specs.declared.planning.Changed.{Changed}
 
--- a position, or 64 for none
-abbrev pub positionOf : Found → ℕ
-positionOf (found.At p) = p
-positionOf found.Nothing = 64
+-- a place, or 64 for none
+abbrev pub digitOf : Position → ℕ
+digitOf (place p) = p
+digitOf none = 64
 
 abbrev pub PositionOf : ℕ → ℕ → ℕ → Type 0
-PositionOf x n r = Shown (Selected x n) positionOf r
+PositionOf x n r = Shown (Selected x n) (λ answer. digitOf (positionOf answer)) r
 
 -- the slots of a width, or a number
 abbrev pub neededOf : Needed → Outcome

@@ -1,9 +1,4 @@
 // Select, planning, lengths and fresh filters.
-ghost use mathlib.Core.Path.{_≡_};
-ghost use Rattle.bits.specs.Select.{Selected};
-ghost use Rattle.layout.specs.Plans.{NeededAs, SpecifiedAs, PlannedAs};
-ghost use Rattle.layout.specs.Shapes.{ShapedAs};
-ghost use Rattle.layout.specs.Fresh.{MadeAs};
 ghost use Rattle.capi.specs.Planning.{PositionOf, NeededOutcome, SpecsOutcome, PlanOutcome, LengthOutcome, FreshOutcome};
 use bits::select::Found;
 use layout::fresh::Made;

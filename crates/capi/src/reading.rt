@@ -1,7 +1,7 @@
 // The check, lookups and counts.
 ghost use Rattle.capi.specs.Reading.{CheckOutcome, ContainsOutcome, ContainsQuickOutcome, CountOutcome, CountQuickOutcome};
 ghost use mathlib.Core.Path.{_≡_};
-ghost use Rattle.capi.specs.Reading.{verdictOf, lookedOf, countedOf};
+ghost use Rattle.capi.specs.Reading.{lookedOf, countedOf};
 use crate::planning::Outcome;
 use filter::contains::Counting;
 use filter::contains::Lookup;

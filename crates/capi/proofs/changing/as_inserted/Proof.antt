@@ -1,5 +1,5 @@
 -- `capi::changing::as_inserted`, case by case. Assumes nothing.
-use mathlib.Core.Path.{ap, sym, refl, _∙_, subst}
+use mathlib.Core.Path.{ap, sym}
 use Rattle.capi.specs.Writing.{insertedOf}
 use borrow.Author.Needs.{needs}
 use Rattle.capi.proofs.changing.as_inserted.Statement.{statement}

@@ -1,5 +1,5 @@
 -- `capi::listing::as_begun`, case by case. Assumes nothing.
-use mathlib.Core.Path.{ap, sym, refl, _∙_, subst}
+use mathlib.Core.Path.{ap, sym}
 use Rattle.capi.specs.Listing.{begunOf}
 use borrow.Author.Needs.{needs}
 use Rattle.capi.proofs.listing.as_begun.Statement.{statement}

@@ -1,6 +1,5 @@
 -- `capi::planning::strumblay_buffer_len`, case by case. Assumes nothing.
-use mathlib.Core.Path.{ap, sym, refl, _∙_, subst}
-use mathlib.Core.Path.{_≡_}
+use mathlib.Core.Path.{ap, sym, _∙_, subst}
 use Rattle.theory.specs.check.Refusals.{none-widths}
 use Rattle.layout.specs.Shapes.{ShapedAs}
 use Rattle.layout.specs.declared.shape.Shaped.the-variants.{Of}

@@ -1,5 +1,5 @@
 -- `capi::planning::strumblay_filter_specs`, case by case. Assumes nothing.
-use mathlib.Core.Path.{ap, sym, refl, _∙_, subst}
+use mathlib.Core.Path.{ap, sym}
 use lib.Ieee
 use Rattle.capi.specs.Planning.{specsOf}
 use borrow.Author.Needs.{needs}

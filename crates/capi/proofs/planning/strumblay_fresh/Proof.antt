@@ -1,5 +1,5 @@
 -- `capi::planning::strumblay_fresh`, case by case. Assumes nothing.
-use mathlib.Core.Path.{ap, sym, refl, _∙_, subst}
+use mathlib.Core.Path.{ap, sym}
 use Rattle.capi.specs.Planning.{freshOf}
 use borrow.Author.Needs.{needs}
 use Rattle.capi.proofs.planning.strumblay_fresh.Statement.{statement}

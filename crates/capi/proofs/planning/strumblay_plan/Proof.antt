@@ -1,5 +1,5 @@
 -- `capi::planning::strumblay_plan`, case by case. Assumes nothing.
-use mathlib.Core.Path.{ap, sym, refl, _∙_, subst}
+use mathlib.Core.Path.{ap, sym}
 use Rattle.capi.specs.Planning.{planOf}
 use borrow.Author.Needs.{needs}
 use Rattle.capi.proofs.planning.strumblay_plan.Statement.{statement}

@@ -1,8 +1,6 @@
 -- `capi::planning::strumblay_slots_for`, case by case. Assumes nothing.
-use mathlib.Core.Path.{ap, sym, refl, _∙_, subst}
-use Prim.Native.Nat.{_<_, _^_, _≤_}
+use mathlib.Core.Path.{ap, sym, _∙_, subst}
 use native.Mathlib.Omega.{arith}
-use mathlib.Core.Path.{_≡_}
 use Rattle.layout.specs.Plans.{NeededAs}
 use Rattle.layout.specs.declared.planning.Needed.the-variants.{Qbits}
 use Rattle.theory.specs.plan.Needed.{needed-high}

@@ -1,5 +1,5 @@
 -- `capi::reading::as_counted`, case by case. Assumes nothing.
-use mathlib.Core.Path.{ap, sym, refl, _∙_, subst}
+use mathlib.Core.Path.{ap, sym}
 use Rattle.capi.specs.Reading.{countedOf}
 use borrow.Author.Needs.{needs}
 use Rattle.capi.proofs.reading.as_counted.Statement.{statement}

@@ -1,5 +1,5 @@
 -- `capi::reading::as_looked`, case by case. Assumes nothing.
-use mathlib.Core.Path.{ap, sym, refl, _∙_, subst}
+use mathlib.Core.Path.{ap, sym}
 use Rattle.capi.specs.Reading.{lookedOf}
 use borrow.Author.Needs.{needs}
 use Rattle.capi.proofs.reading.as_looked.Statement.{statement}

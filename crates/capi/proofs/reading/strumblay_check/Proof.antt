@@ -1,5 +1,5 @@
 -- `capi::reading::strumblay_check`, case by case. Assumes nothing.
-use mathlib.Core.Path.{ap, sym, refl, _∙_, subst}
+use mathlib.Core.Path.{ap, sym}
 use Rattle.capi.specs.Reading.{verdictOf}
 use borrow.Author.Needs.{needs}
 use Rattle.capi.proofs.reading.strumblay_check.Statement.{statement}
