@@ -42,21 +42,26 @@ pub fn compare(
     }
 }
 
-/// A quick call where 6 is due: neither answer nor blocks are fixed, all else is.
+/// A quick call where 6 is due: neither answer nor blocks are fixed, all else is. The spare stays
+/// whole, and an insert that is refused has changed nothing.
 fn free(subject: &mut Proved, bytes: &[u8], call: &Call) -> Result<Seen, String> {
     let Some(answer) = subject.ask(call, subject.numbers()) else {
         return Ok(Seen::NotOffered);
     };
-    if answer == Answer::OUTSIDE {
-        return Err(format!("{answer:?}"));
+    if let Answer::Broken(what) = answer {
+        return Err(what.into());
     }
-    let in_spare = matches!(answer, Answer::Spare { in_spare: true, .. });
+    if matches!(answer, Answer::Spare { in_spare: true, .. }) {
+        return Err("a damaged buffer grew into the spare".into());
+    }
     let last_eight = |bytes: &[u8]| bytes[bytes.len() - 8..].to_vec();
-    if !in_spare && last_eight(subject.bytes()) != last_eight(bytes) {
+    if last_eight(subject.bytes()) != last_eight(bytes) {
         return Err("the last eight bytes were altered".into());
     }
-    if !in_spare && !call.writes() && subject.bytes() != bytes {
-        return Err("a reader altered the buffer".into());
+    let inserts = matches!(call, Call::Insert { .. } | Call::InsertSpare { .. });
+    let refused = inserts && matches!(answer, Answer::Refused(_));
+    if (refused || !call.writes()) && subject.bytes() != bytes {
+        return Err("a reader, or an insert that is refused, altered the buffer".into());
     }
     Ok(Seen::Ended)
 }
