@@ -1,4 +1,4 @@
--- What a call answers: a refusal returns its number alone; else there are values. For each enum of the code one definition says which, and promises and the C interface go by it.
+-- What a call on a filter answers: values, or the number of a refusal alone. For each enum of the code one definition says which (specs/Says of its crate); promises and the C interface go by it.
 use Prim.Native.Nat.{ℕ}
 
 pub data Answer (A : Type 0) : Type 0 where
