@@ -5,9 +5,10 @@
  * a buffer that a call writes must not overlap another one lent to it.
  *
  * Every answer but select's begins with a number: 0, or why the call was refused. A refused call
- * has changed nothing, its other values are 0, and its record is the one given (of a fresh filter,
- * the widths asked for and len 0). One exception: a quick remove that answers 6 may have altered
- * blocks.
+ * has changed nothing, its other values are 0, its record is the one given (of a fresh filter, the
+ * widths asked for and len 0; of a merge, the first's), and the place of a refused step is the one
+ * given. One exception: a quick remove on a buffer that is not sound may have altered blocks, and
+ * then refuse.
  *
  *    1  qbits outside 6 to 59, rbits 0, or their sum above 64
  *    2  the buffer's length is not that of the widths
@@ -161,8 +162,8 @@ strumblay_changed strumblay_insert(uint8_t *buf, size_t buf_len, strumblay_numbe
 strumblay_changed strumblay_insert_quick(uint8_t *buf, size_t buf_len, strumblay_numbers n,
                                          uint64_t hash, uint64_t max_count);
 
-/* One copy fewer: answers 1, or 0 if none is held. A quick remove may answer 6 on a buffer that is
- * not sound, and may have altered its blocks by then. */
+/* One copy fewer: answers 1, or 0 if none is held. On a buffer that is not sound a quick remove may
+ * refuse 6, and may have altered blocks by then. */
 strumblay_changed strumblay_remove(uint8_t *buf, size_t buf_len, strumblay_numbers n,
                                    uint64_t hash);
 strumblay_changed strumblay_remove_quick(uint8_t *buf, size_t buf_len, strumblay_numbers n,

@@ -6,7 +6,7 @@ use core::fmt;
 pub type Result<T> = core::result::Result<T, Error>;
 
 /// Why a call was refused, by the number that the library gives. A refused call has changed
-/// nothing.
+/// nothing, but for a quick remove on a buffer that is not sound, which may have altered blocks.
 ///
 /// ```
 /// use strumblay::{Error, Filter, Numbers};

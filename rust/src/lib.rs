@@ -28,7 +28,7 @@
 //! it gives the same answers. On a buffer that is not sound it ends and touches nothing else, but
 //! its answer, 6 included, its record and what it writes in the buffer's blocks may be anything. No
 //! call panics, though one that makes a buffer of its own needs the memory. A refused call has
-//! changed nothing; only a quick remove that answers 6 may have altered blocks.
+//! changed nothing; only a quick remove on a buffer that is not sound may have altered blocks.
 //!
 //! # Buffers
 //! [`Filter<B>`](Filter) works over a `Vec<u8>` of its own, over `&mut [u8]`, and for reading over

@@ -1,6 +1,6 @@
 // From the bytes of the input to the bytes that the program writes.
 ghost use mathlib.Core.Path.{_≡_};
-ghost use Prim.Native.Nat.{ℕ, _+_, _*_, _≤_, _<_};
+ghost use Prim.Native.Nat.{_+_, _*_, _≤_, _<_};
 ghost use lib.ListN.{length};
 ghost use Rattle.theory.specs.Text.{lines};
 ghost use Rattle.theory.specs.Report.{markDue, headerDue, refused, sound, reportOf};

@@ -90,12 +90,6 @@ module _ (n : Numbers) (s : List ℕ) (m : Numbers) (o : List ℕ) (keep : ℕ) 
       let z = not-refused _ _ _ _ o _ _ (y .1) (λ k z. never k (z .0)) in
       (y .0, z .0, z .1)
 
-  pub merged-self : SoundOf n s
-  merged-self = both .0
-
-  pub merged-other : SoundOf m o
-  merged-other = both .1
-
   module _ (la lb : List ℕ) (ha : HeldBy n s la) (hb : HeldBy m o lb) where
     abbrev e : lowestDue n s ≡ 0
     e = both .0 .none

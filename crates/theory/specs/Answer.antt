@@ -1,4 +1,5 @@
--- What a call on a filter answers: values, or the number of a refusal alone. For each enum of the code one definition says which (specs/Says of its crate); promises and the C interface go by it.
+-- What a call answers: values, or the number of a refusal alone. For the answers of lookup, count, listing, insert, remove, growth, merge and insert with a spare one definition each
+-- says which (specs/Says of filter, writing and growth); promises and the C interface go by it.
 use Prim.Native.Nat.{ℕ}
 
 pub data Answer (A : Type 0) : Type 0 where

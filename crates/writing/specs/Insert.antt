@@ -1,4 +1,4 @@
--- The rule of insert, document 01.
+-- The core of insert keeps the rule of the theory, Changing, on a buffer that shows a list.
 use Prim.Native.Nat.{ℕ, suc, _+_, _*_, _/_, _%_, _^_, _≤_, _<_, max}
 use mathlib.Core.Path.{_≡_, refl, sym, ap, _∙_}
 use mathlib.Core.List.{List}

@@ -1,4 +1,4 @@
--- The rule of remove, document 01.
+-- The core of remove keeps the rule of the theory, Changing, on a buffer that shows a list.
 use Prim.Native.Nat.{ℕ, suc, _+_, _-_, _*_, _/_, _%_, _^_, _≤_, _<_, min}
 use mathlib.Core.Path.{_≡_, refl, sym, ap, _∙_}
 use mathlib.Core.Logic.{_⊎_, inl, inr}
