@@ -1,2 +1,3 @@
+-- The promises of bits.
 pub mod Select
 pub mod Lowest

@@ -1,6 +1,6 @@
 // Counts of ones, in a word and in a range of it.
 ghost use mathlib.Core.Path.{_≡_};
-ghost use Prim.Native.Nat.{ℕ, _+_, _-_, _*_, _/_, _%_, _^_, _<_, _≤_};
+ghost use Prim.Native.Nat.{_+_, _<_, _≤_};
 ghost use Rattle.theory.specs.number.Count.{rank};
 use crate::bit::pow2;
 
@@ -25,14 +25,6 @@ pub fn ones_through(x: u64, i: u64) -> u64
     ensures { λ r. ⌜ (r ≡ rank x (i + 1)) × (r ≤ i + 1) ⌝ }
 {
     ones(x << (63 - i))
-}
-
-// How many of the digits of x from i on are ones.
-pub fn ones_from(x: u64, i: u64) -> u64
-    requires { ⌜ i < 64 ⌝ }
-    ensures { λ r. ⌜ (r ≡ rank x 64 - rank x i) × (r + i ≤ 64) ⌝ }
-{
-    ones(x >> i)
 }
 
 // How many of the digits of x from i to below j are ones.

@@ -3,7 +3,7 @@ use crate::bit::pow2;
 use crate::word::read64;
 use crate::word::write64;
 ghost use mathlib.Core.Path.{_≡_};
-ghost use Prim.Native.Nat.{ℕ, _+_, _-_, _*_, _/_, _%_, _^_, _<_, _≤_};
+ghost use Prim.Native.Nat.{_+_, _*_, _^_, _<_, _≤_};
 ghost use lib.ListN.{length};
 ghost use Rattle.theory.specs.number.Field.{field, put};
 ghost use Rattle.theory.specs.number.Bytes.{le};
@@ -32,6 +32,7 @@ pub fn get_field(s: &[u8], k: usize, p: u64, w: u64) -> u64
     field_of(read64(s, k), p, w)
 }
 
+// w digits of the buffer from digit p of byte k on become v, with one read and one write of eight bytes.
 pub fn set_field(s: &mut [u8], k: usize, p: u64, w: u64, v: u64)
     requires { ⌜ (k + 8 ≤ length (now s)) × (p < 64) × (w < 64) × (p + w ≤ 64) × (v < 2 ^ w) ⌝ }
     ensures { λ r. ⌜ le (now (s .exit)) ≡ put (le (now (s .entry))) (8 * k + p) w v ⌝ }

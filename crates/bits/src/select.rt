@@ -1,10 +1,16 @@
 // The position of the n-th one of a word, and of the lowest from a digit on.
-ghost use mathlib.Core.Path.{_≡_};
-ghost use Prim.Native.Nat.{ℕ, _+_, _-_, _*_, _/_, _%_, _^_, _<_, _≤_, min};
+ghost use Prim.Native.Nat.{_-_, _<_, _≤_, min};
 ghost use Rattle.bits.specs.Lowest.{LowestFrom};
 ghost use Rattle.bits.specs.Select.{Selected, Cleared};
 use crate::count::ones;
 
+// Where the n-th one of a word stands; or it has no n-th one.
+pub enum Nth {
+    At(u64),
+    Nothing,
+}
+
+// What a walk looks for, and where it stands; or there is none.
 pub enum Found {
     At(u64),
     Nothing,
@@ -33,11 +39,11 @@ fn clear_few(x: u64, n: u64) -> u64
 }
 
 // The n-th one of x, counted from 0, for every n: the n ones before it are cleared, lowest first, four at a time.
-pub fn select(x: u64, n: u64) -> Found
+pub fn select(x: u64, n: u64) -> Nth
     ensures { λ r. ⌜ Selected x n r ⌝ }
 {
     if ones(x) <= n {
-        return Found::Nothing;
+        return Nth::Nothing;
     }
     let mut y = x;
     let mut left = n;
@@ -45,7 +51,7 @@ pub fn select(x: u64, n: u64) -> Found
         y = clear_few(y, 4);
         left -= 4;
     }
-    Found::At(u64::trailing_zeros(clear_few(y, left)) as u64)
+    Nth::At(u64::trailing_zeros(clear_few(y, left)) as u64)
 }
 
 // The lowest one of x at digit i or above: the zeros below it in x shifted down are counted by one instruction.

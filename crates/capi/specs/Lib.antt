@@ -1,3 +1,4 @@
+-- The answers as plain structs, and what the exports promise.
 pub mod Growing
 pub mod Listing
 pub mod Merging

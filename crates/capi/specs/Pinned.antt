@@ -14,7 +14,8 @@ use Rattle.layout.specs.Pinned.{needed-qbits-pinned, filter-specs-pinned, plan-
 use Rattle.filter.specs.declared.listing.Place.{Place}
 use Rattle.filter.specs.Asking.{Contains, ContainsQuick, Count, CountQuick}
 use Rattle.filter.specs.Listing.{Begins, Listed}
-use Rattle.filter.specs.Pinned.{Settled, Fixed, contains-fingerprint-pinned, contains-fingerprint-quick-pinned, count-fingerprint-pinned, count-fingerprint-quick-pinned, begin-pinned, step-from-pinned}
+use Rattle.layout.specs.Outcomes.{Settled}
+use Rattle.filter.specs.Pinned.{Fixed, contains-fingerprint-pinned, contains-fingerprint-quick-pinned, count-fingerprint-pinned, count-fingerprint-quick-pinned, begin-pinned, step-from-pinned}
 use Rattle.writing.specs.Writing.{Insert, InsertQuick, Remove, RemoveQuick}
 use Rattle.writing.specs.Pinned.{insert-fingerprint-counting-pinned, insert-fingerprint-counting-quick-pinned, remove-fingerprint-pinned, remove-fingerprint-quick-pinned}
 use Rattle.growth.specs.Rebuilding.{Grows}

@@ -1,4 +1,4 @@
--- Answers as plain structs: each enum case with its number of document 01 and its values.
+-- Answers as plain structs: each enum case with its number and its values (docs/RULES.md, "Refusals").
 use Prim.Native.Nat.{ℕ, _^_}
 use mathlib.Core.Bool.{false}
 use mathlib.Core.List.{List}
@@ -17,6 +17,7 @@ use Rattle.layout.specs.declared.shape.Shaped.{Shaped}
 use Rattle.layout.specs.declared.shape.Shaped.the-variants as shaped
 use Rattle.layout.specs.declared.fresh.Made.{Made}
 use Rattle.layout.specs.declared.fresh.Made.the-variants as made
+use Rattle.layout.specs.Records.{emptyRecord}
 use Rattle.layout.specs.Plans.{NeededAs, SpecifiedAs, PlannedAs}
 use Rattle.layout.specs.Shapes.{ShapedAs}
 use Rattle.layout.specs.Fresh.{MadeAs}
@@ -66,7 +67,7 @@ LengthOutcome q r a = Shown (ShapedAs q r) lengthOf a
 -- a refusal gives back the widths asked, with len 0
 abbrev pub freshOf : ℕ → ℕ → ℕ → Made → Changed
 freshOf q r mx (made.Fresh n) = record { number = 0; answer = 0; numbers = n }
-freshOf q r mx (made.Refused k) = record { number = k; answer = 0; numbers = record { len = 0; qbits = q; rbits = r; «max_qbits» = mx } }
+freshOf q r mx (made.Refused k) = record { number = k; answer = 0; numbers = emptyRecord q r mx }
 
 abbrev pub FreshOutcome : List ℕ → ℕ → ℕ → ℕ → Changed → List ℕ → Type 0
 FreshOutcome s q r mx a t = Shown (λ answer. MadeAs s q r mx answer t) (freshOf q r mx) a

@@ -6,6 +6,7 @@ use layout::numbers::Numbers;
 use writing::writers::Inserted;
 use writing::writers::Removed;
 
+// The answer of an insert, or its number, with the record from now on.
 fn as_inserted(inserted: Inserted, n: Numbers) -> Changed
     ensures { λ r. ⌜ r ≡ insertedOf n inserted ⌝ }
 {
@@ -23,6 +24,7 @@ fn as_inserted(inserted: Inserted, n: Numbers) -> Changed
     }
 }
 
+// One copy more, if fewer than max(1, max_count) are held; the answer is the smaller of the two.
 #[no_mangle]
 pub extern "C" fn strumblay_insert(buf: &mut [u8], n: Numbers, hash: u64, max_count: u64) -> Changed
     ensures { λ r. ⌜ InsertOutcome n hash «max_count» (now (buf .entry)) r (now (buf .exit)) ⌝ }
@@ -33,6 +35,7 @@ pub extern "C" fn strumblay_insert(buf: &mut [u8], n: Numbers, hash: u64, max_co
     )
 }
 
+// The same after asking 1 to 5 alone.
 #[no_mangle]
 pub extern "C" fn strumblay_insert_quick(
     buf: &mut [u8],
@@ -48,6 +51,7 @@ pub extern "C" fn strumblay_insert_quick(
     )
 }
 
+// 1 if a copy went, else 0, or the number, with the record from now on.
 fn as_removed(removed: Removed, n: Numbers) -> Changed
     ensures { λ r. ⌜ r ≡ removedOf n removed ⌝ }
 {
@@ -70,6 +74,7 @@ fn as_removed(removed: Removed, n: Numbers) -> Changed
     }
 }
 
+// One copy fewer, if it is held.
 #[no_mangle]
 pub extern "C" fn strumblay_remove(buf: &mut [u8], n: Numbers, hash: u64) -> Changed
     ensures { λ r. ⌜ RemoveOutcome n hash (now (buf .entry)) r (now (buf .exit)) ⌝ }
@@ -77,6 +82,7 @@ pub extern "C" fn strumblay_remove(buf: &mut [u8], n: Numbers, hash: u64) -> Cha
     as_removed(writing::writers::remove_fingerprint(buf, n, hash), n)
 }
 
+// The same after asking 1 to 5 alone.
 #[no_mangle]
 pub extern "C" fn strumblay_remove_quick(buf: &mut [u8], n: Numbers, hash: u64) -> Changed
     ensures { λ r. ⌜ RemoveQuickOutcome n hash (now (buf .entry)) r (now (buf .exit)) ⌝ }

@@ -41,6 +41,7 @@ pub extern "C" fn strumblay_grow(buf: &[u8], n: Numbers, dest: &mut [u8]) -> Cha
     as_rebuilt(growth::rebuild::rebuild_grown(buf, n, dest), n)
 }
 
+// The answer, the buffer that holds the filter and the record from now on, or the number.
 fn as_placed(placed: Placed, n: Numbers) -> SpareAnswer
     ensures { λ r. ⌜ r ≡ placedOf n placed ⌝ }
 {
@@ -66,6 +67,7 @@ fn as_placed(placed: Placed, n: Numbers) -> SpareAnswer
     }
 }
 
+// An insert that grows into the spare where the buffer is full.
 #[no_mangle]
 pub extern "C" fn strumblay_insert_spare(
     buf: &mut [u8],
@@ -82,6 +84,7 @@ pub extern "C" fn strumblay_insert_spare(
     )
 }
 
+// The same after asking 1 to 5 alone; growth, where it is due, is checked.
 #[no_mangle]
 pub extern "C" fn strumblay_insert_spare_quick(
     buf: &mut [u8],

@@ -22,6 +22,7 @@ pub struct Next {
     pub place: Place,
 }
 
+// The first place, or the number.
 fn as_begun(begun: Begun) -> First
     ensures { λ r. ⌜ r ≡ begunOf begun ⌝ }
 {
@@ -38,6 +39,7 @@ fn as_begun(begun: Begun) -> First
     }
 }
 
+// The fingerprint, done, or the number, with the place after it.
 fn as_next(step: Step, place: Place) -> Next
     ensures { λ r. ⌜ r ≡ nextOf place step ⌝ }
 {
@@ -63,6 +65,7 @@ fn as_next(step: Step, place: Place) -> Next
     }
 }
 
+// The place of the first fingerprint, after the check.
 #[no_mangle]
 pub extern "C" fn strumblay_list_begin(buf: &[u8], n: Numbers) -> First
     ensures { λ r. ⌜ BeginOutcome n (now (buf .entry)) r ⌝ }
@@ -70,6 +73,7 @@ pub extern "C" fn strumblay_list_begin(buf: &[u8], n: Numbers) -> First
     as_begun(filter::listing::begin(buf, n))
 }
 
+// One step from a place, after asking 1 to 5.
 #[no_mangle]
 pub extern "C" fn strumblay_list_step(buf: &[u8], n: Numbers, place: Place) -> Next
     ensures { λ r. ⌜ StepOutcome n (now (buf .entry)) place r ⌝ }

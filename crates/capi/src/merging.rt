@@ -4,6 +4,7 @@ use crate::growing::as_rebuilt;
 use crate::planning::Changed;
 use layout::numbers::Numbers;
 
+// Both filters merged in the destination, with duplicates unless keep_duplicates is 0.
 #[no_mangle]
 pub extern "C" fn strumblay_merge(
     buf: &[u8],

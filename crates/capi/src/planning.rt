@@ -1,6 +1,6 @@
 // Select, planning, lengths and fresh filters.
 ghost use Rattle.capi.specs.Planning.{PositionOf, NeededOutcome, SpecsOutcome, PlanOutcome, LengthOutcome, FreshOutcome};
-use bits::select::Found;
+use bits::select::Nth;
 use layout::fresh::Made;
 use layout::numbers::Numbers;
 use layout::planning::Needed;
@@ -16,6 +16,7 @@ pub struct Outcome {
     pub value: u64,
 }
 
+// A refusal's number, or 0 and what a filter for a capacity and a rate comes to.
 #[repr(C)]
 pub struct Specs {
     pub number: u64,
@@ -27,6 +28,7 @@ pub struct Specs {
     pub fingerprint_bits: u64,
 }
 
+// A refusal's number, or 0 and the widths planned.
 #[repr(C)]
 pub struct Plan {
     pub number: u64,
@@ -48,7 +50,7 @@ pub struct Changed {
 pub extern "C" fn strumblay_select(x: u64, n: u64) -> u64
     ensures { λ r. ⌜ PositionOf x n r ⌝ }
 {
-    let Found::At(p) = bits::select::select(x, n) else {
+    let Nth::At(p) = bits::select::select(x, n) else {
         return 64;
     };
     p
@@ -72,6 +74,7 @@ pub extern "C" fn strumblay_slots_for(capacity: u64) -> Outcome
     }
 }
 
+// What a filter for a capacity and a rate comes to.
 #[no_mangle]
 pub extern "C" fn strumblay_filter_specs(capacity: u64, rate: f64) -> Specs
     ensures { λ r. ⌜ SpecsOutcome capacity rate r ⌝ }
@@ -99,6 +102,7 @@ pub extern "C" fn strumblay_filter_specs(capacity: u64, rate: f64) -> Specs
     }
 }
 
+// The widths for a filter that starts with one capacity and can grow to another.
 #[no_mangle]
 pub extern "C" fn strumblay_plan(initial: u64, most: u64, rate: f64) -> Plan
     ensures { λ r. ⌜ PlanOutcome initial most rate r ⌝ }
@@ -153,12 +157,7 @@ pub extern "C" fn strumblay_fresh(qbits: u8, rbits: u8, max_qbits: u8, buf: &mut
         Made::Refused(k) => Changed {
             number: k as u64,
             answer: 0,
-            numbers: Numbers {
-                len: 0,
-                qbits,
-                rbits,
-                max_qbits,
-            },
+            numbers: Numbers::empty(qbits, rbits, max_qbits),
         },
     }
 }

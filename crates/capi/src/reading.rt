@@ -16,6 +16,7 @@ pub struct Looked {
     pub compared: u64,
 }
 
+// Held or absent with the remainders compared, or the number.
 fn as_looked(lookup: Lookup) -> Looked
     ensures { λ r. ⌜ r ≡ lookedOf lookup ⌝ }
 {
@@ -38,6 +39,7 @@ fn as_looked(lookup: Lookup) -> Looked
     }
 }
 
+// How often, or the number.
 fn as_counted(counting: Counting) -> Outcome
     ensures { λ r. ⌜ r ≡ countedOf counting ⌝ }
 {
@@ -65,6 +67,7 @@ pub extern "C" fn strumblay_check(buf: &[u8], n: Numbers) -> u64
     }
 }
 
+// Is the fingerprint of the hash held?
 #[no_mangle]
 pub extern "C" fn strumblay_contains(buf: &[u8], n: Numbers, hash: u64) -> Looked
     ensures { λ r. ⌜ ContainsOutcome n (now (buf .entry)) hash r ⌝ }
@@ -72,6 +75,7 @@ pub extern "C" fn strumblay_contains(buf: &[u8], n: Numbers, hash: u64) -> Looke
     as_looked(filter::contains::contains_fingerprint(buf, n, hash))
 }
 
+// The same after asking 1 to 5 alone.
 #[no_mangle]
 pub extern "C" fn strumblay_contains_quick(buf: &[u8], n: Numbers, hash: u64) -> Looked
     ensures { λ r. ⌜ ContainsQuickOutcome n (now (buf .entry)) hash r ⌝ }
@@ -79,6 +83,7 @@ pub extern "C" fn strumblay_contains_quick(buf: &[u8], n: Numbers, hash: u64) ->
     as_looked(filter::contains::contains_fingerprint_quick(buf, n, hash))
 }
 
+// How often the fingerprint of the hash is held.
 #[no_mangle]
 pub extern "C" fn strumblay_count(buf: &[u8], n: Numbers, hash: u64) -> Outcome
     ensures { λ r. ⌜ CountOutcome n (now (buf .entry)) hash r ⌝ }
@@ -86,6 +91,7 @@ pub extern "C" fn strumblay_count(buf: &[u8], n: Numbers, hash: u64) -> Outcome
     as_counted(filter::contains::count_fingerprint(buf, n, hash))
 }
 
+// The same after asking 1 to 5 alone.
 #[no_mangle]
 pub extern "C" fn strumblay_count_quick(buf: &[u8], n: Numbers, hash: u64) -> Outcome
     ensures { λ r. ⌜ CountQuickOutcome n (now (buf .entry)) hash r ⌝ }

@@ -8,12 +8,12 @@ use native.Mathlib.Nat.{eq-zero-or-pos}
 use Rattle.theory.specs.Shape.{slots}
 use Rattle.theory.specs.Sound.{Checked}
 use Rattle.theory.specs.Report.{bufferOf, maxQbits, headerDue, refused, sound, reportOf}
-use Rattle.theory.specs.check.Search.{sound-dec}
-use Rattle.theory.specs.program.Answers.{report-checked, report-few}
+use Rattle.theory.specs.refusals.SoundDecided.{sound-dec}
+use Rattle.theory.specs.program.TextByDue.{report-checked, report-few}
 use Rattle.layout.specs.declared.numbers.Numbers.{Numbers}
 use Rattle.filter.specs.declared.listing.Place.{Place}
 use Rattle.filter.specs.declared.listing.Begun.the-variants as begun
-use Rattle.layout.specs.Verdicts.{lowestDue, SoundOf}
+use Rattle.layout.specs.Records.{lowestDue, SoundOf}
 use Rattle.filter.specs.Listing.{Begins}
 use Rattle.filter.specs.Steps.{begun-at}
 use Rattle.check_list.specs.Steps.{numbersOf, Ready}

@@ -1,3 +1,4 @@
+-- What the check program promises.
 pub mod Beginning
 pub mod Steps
 pub mod Written

@@ -6,15 +6,14 @@ use lib.ListN.{length, getD}
 use Rattle.theory.specs.Report.{lenOf, qbitsOf, rbitsOf, maxOf}
 use Rattle.theory.specs.Text.{line}
 use Rattle.layout.specs.declared.numbers.Numbers.{Numbers}
-use Rattle.layout.specs.Verdicts.{lowestDue, SoundOf}
+use Rattle.layout.specs.Records.{emptyRecord, withLen, lowestDue, SoundOf, HoldsOf}
 use Rattle.filter.specs.declared.listing.Place.{Place}
-use Rattle.filter.specs.Listing.{HoldsOf}
 use Rattle.filter.specs.Places.{placeOf}
 use Rattle.check_list.specs.Written.{Written}
 
 -- the numbers in front of the buffer, as one record
 abbrev pub numbersOf : List ℕ → Numbers
-numbersOf s = record { len = lenOf s; qbits = qbitsOf s; rbits = rbitsOf s; «max_qbits» = maxOf s }
+numbersOf s = withLen (emptyRecord (qbitsOf s) (rbitsOf s) (maxOf s)) (lenOf s)
 
 -- a step at the place of the k-th fingerprint held: its line, and the place of the next
 abbrev pub PutStep : Numbers → List ℕ → Place → List ℕ → List ℕ → Place → Type 0

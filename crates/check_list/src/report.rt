@@ -1,11 +1,11 @@
 // From the bytes of the input to the bytes that the program writes.
 ghost use mathlib.Core.Path.{_≡_};
-ghost use Prim.Native.Nat.{_+_, _*_, _≤_, _<_};
+ghost use Prim.Native.Nat.{_+_, _*_, _≤_};
 ghost use lib.ListN.{length};
 ghost use Rattle.theory.specs.Text.{lines};
-ghost use Rattle.theory.specs.Report.{markDue, headerDue, refused, sound, reportOf};
+ghost use Rattle.theory.specs.Report.{headerBytes, markDue, headerDue, refused, sound, reportOf};
 ghost use Rattle.theory.specs.program.Enough.{enough};
-ghost use Rattle.layout.specs.Verdicts.{SoundOf};
+ghost use Rattle.layout.specs.Records.{SoundOf};
 ghost use Rattle.check_list.specs.Written.{Written};
 ghost use Rattle.check_list.specs.Steps.{numbersOf, PutStep, Ready};
 use crate::text::put_headline;
@@ -22,9 +22,10 @@ use layout::shape::Shaped;
 // The largest qbits that the program takes; the sizes below follow from it.
 pub const MAX_QBITS: u8 = 9;
 
-// The bytes in front of the buffer.
+// The bytes in front of the buffer: the mark and the record.
 const HEADER: usize = 13;
 
+// The slots of a filter of that qbits.
 const SLOTS: usize = 1 << MAX_QBITS;
 
 // The header, the largest buffer, and one byte more.
@@ -40,7 +41,7 @@ pub fn input_room() -> [u8; INPUT]
     [0; INPUT]
 }
 
-// Number 13, or 0.
+// Number 13, if the header is cut short or its mark is another, or 0.
 fn mark_due(input: &[u8]) -> u8
     ensures { λ r. ⌜ r ≡ markDue (now (input .entry)) ⌝ }
 {
@@ -58,15 +59,11 @@ fn mark_due(input: &[u8]) -> u8
 
 // The numbers in front of the buffer.
 fn numbers_of(input: &[u8]) -> Numbers
-    requires { ⌜ 13 ≤ length (now input) ⌝ }
+    requires { ⌜ headerBytes ≤ length (now input) ⌝ }
     ensures { λ r. ⌜ r ≡ numbersOf (now (input .entry)) ⌝ }
 {
-    Numbers {
-        len: bits::word::read64(input, 2),
-        qbits: input[10],
-        rbits: input[11],
-        max_qbits: input[12],
-    }
+    let len = bits::word::read64(input, 2);
+    Numbers::empty(input[10], input[11], input[12]).with_len(len)
 }
 
 // The first of 13, 1 and 14 that is due, or 0.
@@ -87,6 +84,7 @@ fn header_due(input: &[u8]) -> u8
     0
 }
 
+// The line of a refusal.
 fn put_refused(out: &mut [u8], number: u8) -> usize
     requires { ⌜ 32 ≤ length (now out) ⌝ }
     ensures { λ r. ⌜ Written (refused number) (now (out .entry)) (now (out .exit)) r ⌝ }
@@ -122,6 +120,7 @@ fn put_lines(out: &mut [u8], buf: &[u8], n: Numbers, first: Place) -> usize
     at
 }
 
+// The line of a sound filter, and a line for each fingerprint.
 fn put_sound(out: &mut [u8], buf: &[u8], n: Numbers, first: Place) -> usize
     requires { ⌜ (Ready n (now buf) first) × (32 + 17 * n .len ≤ length (now out)) ⌝ }
     ensures { λ r. ⌜ ((h : SoundOf n (now (buf .entry))) → Written (sound (n .len) (h .held)) (now (out .entry)) (now (out .exit)) r) ⌝ }

@@ -1,6 +1,6 @@
 // Text at the start of a lent buffer. Each function answers how many bytes it wrote.
 ghost use mathlib.Core.Path.{_≡_};
-ghost use Prim.Native.Nat.{_+_, _≤_, _<_};
+ghost use Prim.Native.Nat.{_≤_, _<_};
 ghost use lib.ListN.{length};
 ghost use Rattle.theory.specs.Text.{digit as digitOf, decimal, headline, line};
 ghost use Rattle.check_list.specs.Written.{Written};

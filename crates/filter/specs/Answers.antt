@@ -12,16 +12,16 @@ use Rattle.theory.specs.Shape.{slots, fingerprint}
 use Rattle.theory.specs.Holding.{copies}
 use Rattle.theory.specs.Image.{many}
 use Rattle.theory.specs.list.Seek.{seek-le, seek-absent, copies-run}
-use Rattle.theory.specs.layout.Sizes.{fingerprint-lt}
-use Rattle.theory.specs.layout.Views.{many-at}
+use Rattle.theory.specs.images.Sizes.{fingerprint-lt}
+use Rattle.theory.specs.images.ByViews.{many-at}
 use Rattle.layout.specs.declared.numbers.Numbers.{Numbers}
-use Rattle.layout.specs.Verdicts.{lowestDue}
+use Rattle.layout.specs.Records.{lowestDue, fingerprintOf, HoldsOf}
 use Rattle.filter.specs.declared.contains.Lookup.{Lookup}
 use Rattle.filter.specs.declared.contains.Counting.{Counting}
 use Rattle.filter.specs.Says.{lookupSays, lookup-tells, countingSays, counting-tells}
-use Rattle.filter.specs.Asking.{Contains, ContainsQuick, Count, CountQuick, fingerprintOf, lookupOf, runOf}
-use Rattle.filter.specs.Listing.{HoldsOf}
-use Rattle.filter.specs.Pinned.{Settled, quick-checked-answer}
+use Rattle.filter.specs.Asking.{Contains, ContainsQuick, Count, CountQuick, lookupOf, runOf}
+use Rattle.layout.specs.Outcomes.{Settled}
+use Rattle.filter.specs.Pinned.{quick-checked-answer}
 
 -- whether a lookup says yes, 1, or no, 0, and how many remainders it says that it compared
 abbrev pub saysHeld : Lookup → ℕ
@@ -30,7 +30,7 @@ saysHeld a = values notLooked (lookupSays a) .held
 abbrev pub compared : Lookup → ℕ
 compared a = values notLooked (lookupSays a) .compared
 
--- ---- two sound filters of equal qbits + rbits that hold one fingerprint equally often answer alike about holding and count, whatever else they hold
+-- ---- equal holding, equal answers: where two sound filters with as many bits of fingerprint have one as often, lookup and count say the same of it
 module _ (n n′ : Numbers) (s s′ l l′ : List ℕ) (e : lowestDue n s ≡ 0) (e′ : lowestDue n′ s′ ≡ 0) (h : HoldsOf n s l) (h′ : HoldsOf n′ s′ l′)
     (hash : ℕ) (width : n .qbits + n .rbits ≡ n′ .qbits + n′ .rbits) (often : copies (fingerprintOf n hash) l ≡ copies (fingerprintOf n hash) l′) where
   often-too : copies (fingerprintOf n hash) l ≡ copies (fingerprintOf n′ hash) l′

@@ -1,4 +1,4 @@
--- The promises of lookup and count, document 01.
+-- The promises of lookup and count (docs/RULES.md, "Lookup and count").
 use Prim.Native.Nat.{ℕ, _/_, _%_, _^_, _≤_, min}
 use mathlib.Core.Path.{_≡_, sym, ap, _∙_}
 use mathlib.Core.List.{List}
@@ -6,14 +6,13 @@ use native.Mathlib.Omega.{arith}
 use native.Mathlib.Decide.{decLe}
 use lib.Pow.{pow-pos}
 use Rattle.theory.specs.tools.Choose.{choose}
-use Rattle.theory.specs.Shape.{fingerprint, Widths}
-use Rattle.theory.specs.Answer.{Answer, gives, refuses, Looked}
+use Rattle.theory.specs.Shape.{Widths}
+use Rattle.theory.specs.Answer.{gives, Looked}
 use Rattle.theory.specs.Holding.{copies, run, seek}
-use Rattle.theory.specs.Sound.{Holds, Checked, Quick}
 use Rattle.theory.specs.list.Seek.{copies-run}
 use Rattle.theory.specs.check.Decides.{holds-image}
-use Rattle.layout.specs.declared.shape.Shape.{Shape}
 use Rattle.layout.specs.declared.numbers.Numbers.{Numbers}
+use Rattle.layout.specs.Records.{shapeOf, HoldsOf, fingerprintOf, Answers, AnswersQuick}
 use Rattle.filter.specs.declared.lookup.Seen.{Seen}
 use Rattle.filter.specs.declared.lookup.Seen.the-variants as seen
 use Rattle.filter.specs.declared.contains.Lookup.{Lookup}
@@ -22,31 +21,13 @@ use Rattle.filter.specs.declared.contains.Counting.{Counting}
 use Rattle.filter.specs.Says.{lookupSays, countingSays}
 use Rattle.filter.specs.Lookup.{Shows, Seeks, Counts}
 
--- the fingerprint that a hash has in a filter
-abbrev pub fingerprintOf : Numbers → ℕ → ℕ
-fingerprintOf n hash = fingerprint (n .qbits) (n .rbits) hash
-
 -- the remainders held with the quotient of f, ascending
 abbrev pub runOf : Numbers → ℕ → List ℕ → List ℕ
 runOf n f l = run (2 ^ n .rbits) l (f / 2 ^ n .rbits)
 
--- yes exactly if held; compared: the place (from 1) of the first equal one in the sorted run, or n(q) if absent
+-- held is 1 or 0; compared is where in the ascending run the first equal remainder stands, counted from 1, and the run's length if none is equal
 abbrev pub lookupOf : Numbers → ℕ → List ℕ → Looked
 lookupOf n f l = record { held = min 1 (copies f l); compared = seek (f % 2 ^ n .rbits) (runOf n f l) }
-
--- a checked call on a filter, and a quick one: document 01's rules for both, said of its record
-abbrev pub CheckedOn : Numbers → List ℕ → (ℕ → Type 0) → (List ℕ → Type 0) → Type 0
-CheckedOn n s refused right = Checked (n .qbits) (n .rbits) (n .len) (n .«max_qbits») s refused right
-
-abbrev pub QuickOn : Numbers → List ℕ → (ℕ → Type 0) → (List ℕ → Type 0) → Type 0 → Type 0
-QuickOn n s refused right left = Quick (n .qbits) (n .rbits) (n .len) (n .«max_qbits») s refused right left
-
--- of one that only answers: a number, or the values that are right for the list held
-abbrev pub Answers : {A : Type 0} → Numbers → List ℕ → (List ℕ → A) → Answer A → Type 0
-Answers n s right a = CheckedOn n s (λ k. a ≡ refuses k) (λ l. a ≡ gives (right l))
-
-abbrev pub AnswersQuick : {A : Type 0} → Numbers → List ℕ → (List ℕ → A) → Answer A → Type 0
-AnswersQuick n s right a = QuickOn n s (λ k. a ≡ refuses k) (λ l. a ≡ gives (right l)) (Unit {0})
 
 abbrev pub Contains : Numbers → List ℕ → ℕ → Lookup → Type 0
 Contains n s hash a = Answers n s (lookupOf n (fingerprintOf n hash)) (lookupSays a)
@@ -66,15 +47,11 @@ abbrev pub lookupFrom : Seen → Lookup
 lookupFrom (seen.At k) = Held k
 lookupFrom (seen.Absent k) = Absent k
 
--- the shape of a record
-abbrev pub shapeOf : Numbers → Shape
-shapeOf n = record { qbits = n .qbits; rbits = n .rbits }
-
 -- a buffer that is the image of l shows l
-pub holds-shows : (n : Numbers) (s l : List ℕ) → Widths (n .qbits) (n .rbits) → Holds (n .qbits) (n .rbits) (n .len) s l → Shows (shapeOf n) s l
+pub holds-shows : (n : Numbers) (s l : List ℕ) → Widths (n .qbits) (n .rbits) → HoldsOf n s l → Shows (shapeOf n) s l
 holds-shows n s l w h = record { holding = h .holding; image = holds-image (n .qbits) (n .rbits) (n .len) w s l h }
 
-pub looked : (n : Numbers) (s l : List ℕ) (hash : ℕ) (a : Seen) → Widths (n .qbits) (n .rbits) → Seeks (shapeOf n) s hash a → Holds (n .qbits) (n .rbits) (n .len) s l
+pub looked : (n : Numbers) (s l : List ℕ) (hash : ℕ) (a : Seen) → Widths (n .qbits) (n .rbits) → Seeks (shapeOf n) s hash a → HoldsOf n s l
     → lookupSays (lookupFrom a) ≡ gives (lookupOf n (fingerprintOf n hash) l)
 unfolding choose
 looked n s l hash a w k h =
@@ -92,6 +69,6 @@ looked n s l hash a w k h =
     go (yes y) = ap (λ z. gives (record { held = z; compared = seek rem (runOf n f l) })) (omega arith)
     go (no y) = ap (λ z. gives (record { held = z; compared = seek rem (runOf n f l) })) (omega arith)
 
-pub counted : (n : Numbers) (s l : List ℕ) (hash a : ℕ) → Widths (n .qbits) (n .rbits) → Counts (shapeOf n) s hash a → Holds (n .qbits) (n .rbits) (n .len) s l
+pub counted : (n : Numbers) (s l : List ℕ) (hash a : ℕ) → Widths (n .qbits) (n .rbits) → Counts (shapeOf n) s hash a → HoldsOf n s l
     → gives a ≡ gives (copies (fingerprintOf n hash) l)
 counted n s l hash a w k h = ap gives (k l (holds-shows n s l w h))

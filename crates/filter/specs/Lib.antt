@@ -1,9 +1,9 @@
+-- The promises of filter, and what follows of them.
 pub mod Answers
 pub mod Asking
 pub mod Listing
 pub mod Lookup
 pub mod Moving
-pub mod Near
 pub mod Occupied
 pub mod Offsets
 pub mod Pinned

@@ -6,21 +6,17 @@ use native.Mathlib.Omega.{arith}
 use native.Mathlib.Decide.{decLt}
 use lib.ListN.{length, getD, List·getD-eq-default}
 use Rattle.theory.specs.Answer.{Answer, gives, refuses, Next, noNext}
-use Rattle.theory.specs.Sound.{Holds}
 use Rattle.layout.specs.declared.numbers.Numbers.{Numbers}
 use Rattle.filter.specs.declared.listing.Place.{Place}
 use Rattle.filter.specs.declared.listing.Step.the-variants as step
 use Rattle.filter.specs.declared.listing.Stepped.{Stepped}
 use Rattle.filter.specs.declared.listing.Begun.{Begun}
-use Rattle.layout.specs.Verdicts.{lowestDue}
+use Rattle.layout.specs.Records.{lowestDue, Answers, HoldsOf, shapeOf}
 use Rattle.layout.specs.Judging.{clear-whole}
 use Rattle.filter.specs.Says.{begunSays, stepSays, step-tells}
-use Rattle.filter.specs.Asking.{Answers, shapeOf, holds-shows}
+use Rattle.filter.specs.Asking.{holds-shows}
 use Rattle.filter.specs.Lookup.{Shows}
 use Rattle.filter.specs.Places.{stepped, nowhere, done, placeOf, stepOf, First, Steps, step-some, step-none, place-none}
-
-abbrev pub HoldsOf : Numbers → List ℕ → List ℕ → Type 0
-HoldsOf n s l = Holds (n .qbits) (n .rbits) (n .len) s l
 
 -- a beginning is checked: the place after no steps
 abbrev pub Begins : Numbers → List ℕ → Begun → Type 0

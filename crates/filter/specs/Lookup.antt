@@ -1,4 +1,4 @@
--- Lookup and count of document 01.
+-- What the scans for lookup and count answer (docs/RULES.md, "Lookup and count").
 use Prim.Native.Nat.{ℕ, _/_, _%_, _^_, _<_}
 use mathlib.Core.Path.{_≡_, sym, ap, _∙_}
 use native.Mathlib.Omega.{arith}
@@ -8,25 +8,24 @@ use mathlib.Core.List.{List}
 use lib.ListN.{length}
 use Rattle.theory.specs.Shape.{slots, fingerprint}
 use Rattle.theory.specs.Holding.{Holding, run, copies, seek}
-use Rattle.theory.specs.number.Bytes.{le}
-use Rattle.theory.specs.layout.Block.{views}
+use Rattle.layout.specs.Whole.{viewsIn}
 use Rattle.theory.specs.Image.{Views, many, occ}
 use Rattle.theory.specs.tools.Choose.{choose-no}
 use Rattle.theory.specs.list.Seek.{seek-le, copies-run}
 use Rattle.theory.specs.list.Copies.{copies-le}
-use Rattle.theory.specs.layout.Views.{Image, many-at}
-use Rattle.theory.specs.layout.Behind.{Runs, image-runs}
-use Rattle.theory.specs.layout.RunAt.{image-run, run-few}
+use Rattle.theory.specs.images.ByViews.{Image, many-at}
+use Rattle.theory.specs.reading.BehindRun.{Runs, image-runs}
+use Rattle.theory.specs.reading.RunAt.{image-run, run-few}
 use Rattle.layout.specs.declared.shape.Shape.{Shape}
 use Rattle.filter.specs.declared.lookup.Seen.{Seen}
 use Rattle.filter.specs.declared.lookup.Seen.the-variants.{Absent}
-use Rattle.filter.specs.Runs.{RunStart}
+use Rattle.theory.specs.reading.Walks.{RunStart}
 use Rattle.filter.specs.Scan.{seenIn, RunIn}
 
 -- the buffer's views are the image of l
 pub record Shows (h : Shape) (s l : List ℕ) : Type 0 where
   pub holding : Holding (slots (h .qbits)) (2 ^ h .rbits) l
-  pub image : Image (slots (h .qbits)) (2 ^ h .rbits) l (views (h .rbits) (le s))
+  pub image : Image (slots (h .qbits)) (2 ^ h .rbits) l (viewsIn h s)
 
 -- what a scan of the run of the hash's quotient finds, if the buffer is an image
 abbrev pub Seeks : Shape → List ℕ → ℕ → Seen → Type 0
@@ -39,7 +38,7 @@ Counts h s hash a = (l : List ℕ) → Shows h s l → a ≡ copies (fingerprint
 -- how the code comes to it: an empty run, or the run that starts at the slot found
 module _ (h : Shape) (s l : List ℕ) (w : Shows h s l) (x : ℕ) (b : x < slots (h .qbits)) where
   abbrev v : Views
-  v = views (h .rbits) (le s)
+  v = viewsIn h s
 
   size : many (slots (h .qbits)) (2 ^ h .rbits) l x ≡ length (run (2 ^ h .rbits) l x)
   size = many-at (slots (h .qbits)) (2 ^ h .rbits) l x b
@@ -74,8 +73,8 @@ module _ (h : Shape) (s l : List ℕ) (w : Shows h s l) (x : ℕ) (b : x < slots
       sym (choose-no (decLe 1 (copies rem (run (2 ^ h .rbits) l x))) _ _ (λ k. omega (arith, copies-le rem (run (2 ^ h .rbits) l x), empty-run e)) ∙ ap Absent z)
 
   -- how often: the multiplicity of a fingerprint is that of its remainder in the run of its quotient
-  pub tally-run : (f a : ℕ) → f / 2 ^ h .rbits ≡ x → a ≡ copies (f % 2 ^ h .rbits) (run (2 ^ h .rbits) l x) → a ≡ copies f l
-  tally-run f a e k = k ∙ rw (← e) (sym (copies-run (2 ^ h .rbits) (pow-pos (h .rbits)) f l))
+  pub count-run : (f a : ℕ) → f / 2 ^ h .rbits ≡ x → a ≡ copies (f % 2 ^ h .rbits) (run (2 ^ h .rbits) l x) → a ≡ copies f l
+  count-run f a e k = k ∙ rw (← e) (sym (copies-run (2 ^ h .rbits) (pow-pos (h .rbits)) f l))
 
-  pub tally-empty : (f : ℕ) → f / 2 ^ h .rbits ≡ x → v .occupied x ≡ 0 → 0 ≡ copies f l
-  tally-empty f e z = tally-run f 0 e (omega (arith, copies-le (f % 2 ^ h .rbits) (run (2 ^ h .rbits) l x), empty-run z))
+  pub count-empty : (f : ℕ) → f / 2 ^ h .rbits ≡ x → v .occupied x ≡ 0 → 0 ≡ copies f l
+  count-empty f e z = count-run f 0 e (omega (arith, copies-le (f % 2 ^ h .rbits) (run (2 ^ h .rbits) l x), empty-run z))

@@ -3,24 +3,23 @@ use Prim.Native.Nat.{ℕ, suc, _+_, _-_, _*_, _%_, _^_, _≤_, _<_, max}
 use mathlib.Core.Path.{_≡_, sym, ap, ap₂, _∙_}
 use mathlib.Core.List.{List}
 use native.Mathlib.Omega.{arith}
-use native.Mathlib.Decide.{decLe, decLt}
+use native.Mathlib.Decide.{decLt}
 use native.Mathlib.Nat.{mod-lt, mod-add-mod, add-zero}
 use lib.ListN.{length, getD}
 use lib.Pow.{pow-pos}
 use Rattle.theory.specs.Shape.{slots}
 use Rattle.theory.specs.Image.{Views, many, start, last}
-use Rattle.theory.specs.number.Bytes.{le}
 use Rattle.theory.specs.carry.Carry.{Round, start-carry}
-use Rattle.theory.specs.layout.Block.{views}
-use Rattle.theory.specs.layout.Rank.{last-inner, last-end, occ-zero, occ-none}
-use Rattle.theory.specs.layout.Views.{many-round}
-use Rattle.theory.specs.layout.Places.{kth, kth-is, kth-few, kth-quotient, kth-slot, kth-inner, kth-next, kth-last, kth-first, none-held, start-next, run-within, unwrap-same, unwrap-round}
+use Rattle.layout.specs.Whole.{viewsIn}
+use Rattle.theory.specs.reading.RunendRank.{last-inner, last-end, occ-zero, occ-none}
+use Rattle.theory.specs.images.ByViews.{many-round}
+use Rattle.theory.specs.reading.ListingPlaces.{kth, kth-is, kth-few, kth-quotient, kth-slot, kth-inner, kth-next, kth-last, kth-first, none-held, start-next, run-within}
 use Rattle.layout.specs.declared.shape.Shape.{Shape}
 use Rattle.filter.specs.declared.listing.Place.{Place}
 use Rattle.filter.specs.declared.listing.Step.the-variants.{Fingerprint}
 use Rattle.filter.specs.declared.listing.Stepped.{Stepped}
 use Rattle.filter.specs.Lookup.{Shows, shown-runs}
-use Rattle.filter.specs.Runs.{RunStart}
+use Rattle.theory.specs.reading.Walks.{RunStart, Unrolled, unrolled-is}
 use Rattle.filter.specs.Occupied.{Vacant}
 use Rattle.filter.specs.Places.{stepped, nowhere, done, placeOf, stepOf, Stands, Moves, Ends, First, Steps, place-some, place-none, place-left, step-some, step-none}
 
@@ -35,7 +34,7 @@ module _ (h : Shape) (b l : List ℕ) (w : Shows h b l) where
   n = many (slots (h .qbits)) (2 ^ h .rbits) l
 
   abbrev v : Views
-  v = views (h .rbits) (le b)
+  v = viewsIn h b
 
   round : Round m n
   round = many-round m R l (pow-pos (h .rbits)) (w .holding)
@@ -104,25 +103,19 @@ module _ (h : Shape) (b l : List ℕ) (w : Shows h b l) where
     }
 
     -- where its run ends, less than a round behind its quotient
-    behind : (u : ℕ) → suc (t .j) ≡ n x → (x ≤ s → u ≡ s) → (s < x → u ≡ s + m) → u + 1 ≡ start m n x + n x
-    behind u e f g = go (decLe x s)
-      where
-        z : start m n x + n x < x + m
-        z = run-within m n round x (omega (arith, t .at .inside))
-
-        go : Dec (x ≤ s) → u + 1 ≡ start m n x + n x
-        go (yes c) =
-            omega (arith, f c, unwrap-same m x (start m n x + t .j) s (t .at .within) (omega (arith, start-carry m n x)) (omega (arith, z, t .at .inside)) (t .slot) stands-slot c)
-        go (no c) =
-            omega (arith, g (omega arith), unwrap-round m x (start m n x + t .j) s (t .at .within) (omega (arith, start-carry m n x)) (omega (arith, z, t .at .inside)) (t .slot) stands-slot (omega arith))
+    behind : (u : ℕ) → suc (t .j) ≡ n x → Unrolled m s x u → u + 1 ≡ start m n x + n x
+    behind u e f =
+        let z = run-within m n round x (omega (arith, t .at .inside)) in
+        let g : u ≡ start m n x + t .j = unrolled-is m s x u (start m n x + t .j) f (omega (arith, start-carry m n x)) (omega arith) (t .slot) in
+        omega arith
 
     -- the first of the next run
     pub moves-run : (y u s′ : ℕ) → v .runend s ≡ 1 → x + 1 ≤ y → y < m → v .occupied y ≡ 1 → Vacant v (x + 1) y
-        → (x ≤ s → u ≡ s) → (s < x → u ≡ s + m) → s′ ≡ max (u + 1) y % m → Stands h l (suc k) y s′
-    moves-run y u s′ e c d o empty f g i = record {
+        → Unrolled m s x u → s′ ≡ max (u + 1) y % m → Stands h l (suc k) y s′
+    moves-run y u s′ e c d o empty f i = record {
       j = 0;
       at = kth-next m R l (pow-pos (h .rbits)) (w .holding) k x (t .j) (t .at) (ended e) y (omega arith) d (occupied y d o) (between y (omega arith) empty);
-      slot = i ∙ ap (λ z. z % m) (omega (arith, behind u (ended e) f g, start-next m n x y (omega arith) (between y (omega arith) empty)));
+      slot = i ∙ ap (λ z. z % m) (omega (arith, behind u (ended e) f, start-next m n x y (omega arith) (between y (omega arith) empty)));
     }
 
     -- or there is none
@@ -153,12 +146,12 @@ module _ (h : Shape) (b : List ℕ) where
   pub none-moves : (x s left : ℕ) → left ≡ 0 → Moves h b x s left nowhere
   none-moves x s left e l w k t f = sym (place-none (h .qbits) (h .rbits) l (suc k) (omega arith))
 
-  pub end-moves : (x s left : ℕ) → Ends h b s → Vacant (views (h .rbits) (le b)) (x + 1) (slots (h .qbits)) → Moves h b x s left nowhere
+  pub end-moves : (x s left : ℕ) → Ends h b s → Vacant (viewsIn h b) (x + 1) (slots (h .qbits)) → Moves h b x s left nowhere
   end-moves x s left e empty l w k t f = moves-end h b l w k x s t e empty
 
-  pub run-moves : (x s left y u s′ : ℕ) → Ends h b s → x + 1 ≤ y → y < slots (h .qbits) → views (h .rbits) (le b) .occupied y ≡ 1 → Vacant (views (h .rbits) (le b)) (x + 1) y
-      → (x ≤ s → u ≡ s) → (s < x → u ≡ s + slots (h .qbits)) → s′ ≡ max (u + 1) y % slots (h .qbits) → Moves h b x s left (record { quotient = y; slot = s′; remaining = left })
-  run-moves x s left y u s′ e c d o empty f g i l w k t r = stands-place h b l w (suc k) y s′ left (moves-run h b l w k x s t y u s′ e c d o empty f g i) r
+  pub run-moves : (x s left y u s′ : ℕ) → Ends h b s → x + 1 ≤ y → y < slots (h .qbits) → viewsIn h b .occupied y ≡ 1 → Vacant (viewsIn h b) (x + 1) y
+      → Unrolled (slots (h .qbits)) s x u → s′ ≡ max (u + 1) y % slots (h .qbits) → Moves h b x s left (record { quotient = y; slot = s′; remaining = left })
+  run-moves x s left y u s′ e c d o empty f i l w k t r = stands-place h b l w (suc k) y s′ left (moves-run h b l w k x s t y u s′ e c d o empty f i) r
 
   pub inner-moves : (x s left s′ : ℕ) → (Ends h b s → ⊥) → s′ ≡ (s + 1) % slots (h .qbits) → Moves h b x s left (record { quotient = x; slot = s′; remaining = left })
   inner-moves x s left s′ e f l w k t r = stands-place h b l w (suc k) x s′ left (moves-inner h b l w k x s t s′ e f) r
@@ -166,10 +159,10 @@ module _ (h : Shape) (b : List ℕ) where
   pub none-first : (len : ℕ) → len ≡ 0 → First h b len nowhere
   none-first len e l w f = sym (place-none (h .qbits) (h .rbits) l 0 (omega arith))
 
-  pub missed-first : (len : ℕ) → Vacant (views (h .rbits) (le b)) 0 (slots (h .qbits)) → First h b len nowhere
+  pub missed-first : (len : ℕ) → Vacant (viewsIn h b) 0 (slots (h .qbits)) → First h b len nowhere
   missed-first len empty l w f = first-none h b l w empty
 
-  pub found-first : (len x s : ℕ) → x < slots (h .qbits) → views (h .rbits) (le b) .occupied x ≡ 1 → Vacant (views (h .rbits) (le b)) 0 x → RunStart (slots (h .qbits)) (views (h .rbits) (le b)) x s
+  pub found-first : (len x s : ℕ) → x < slots (h .qbits) → viewsIn h b .occupied x ≡ 1 → Vacant (viewsIn h b) 0 x → RunStart (slots (h .qbits)) (viewsIn h b) x s
       → First h b len (record { quotient = x; slot = s; remaining = len })
   found-first len x s c o empty e l w f =
       stands-place h b l w 0 x s len (first-some h b l w x s c o empty (e .right _ (shown-runs h b l w x c) (w .image .offsets))) (omega arith)
@@ -191,7 +184,7 @@ module _ (h : Shape) (b : List ℕ) where
         let t = stands h b l w k p f c in
         never (stands-within h b l w k (p .quotient) (p .slot) t) (stands-slot h b l w k (p .quotient) (p .slot) t))
 
-  pub some-steps : (p p′ : Place) (f : ℕ) → (p .remaining ≡ 0 → ⊥) → f ≡ p .quotient * 2 ^ h .rbits + views (h .rbits) (le b) .remainder (p .slot)
+  pub some-steps : (p p′ : Place) (f : ℕ) → (p .remaining ≡ 0 → ⊥) → f ≡ p .quotient * 2 ^ h .rbits + viewsIn h b .remainder (p .slot)
       → Moves h b (p .quotient) (p .slot) (p .remaining - 1) p′ → Steps h b p (stepped (Fingerprint f) p′)
   some-steps p p′ f some e next = record { stays = λ z. absurd (some (ap (λ (y : Place). y .remaining) z)); right = right }
     where

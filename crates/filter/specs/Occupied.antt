@@ -4,7 +4,7 @@ use mathlib.Core.Path.{_≡_, sym, ap, _∙_}
 use native.Mathlib.Omega.{arith}
 use native.Mathlib.Decide.{decLt}
 use Rattle.theory.specs.Image.{Views}
-use Rattle.theory.specs.layout.Block.{views, cellAt, wordAt, word-bit}
+use Rattle.theory.specs.images.Block.{views, cellAt, wordAt, word-bit}
 use Rattle.bits.specs.Lowest.{Zeros}
 use Rattle.bits.specs.declared.select.Found.{Found}
 use Rattle.bits.specs.declared.select.Found.the-variants.{At, Nothing}

@@ -10,9 +10,10 @@ use native.Mathlib.Nat.{eq-zero-or-pos}
 use denote.Ref.{RefT, now}
 use Rattle.theory.specs.Answer.{Answer, gives, refuses}
 use Rattle.theory.specs.Holding.{copies}
-use Rattle.theory.specs.check.Promises.{checked-one, quick-one, quick-checked}
+use Rattle.theory.specs.refusals.Demands.{checked-one, quick-one, quick-checked}
 use Rattle.layout.specs.declared.numbers.Numbers.{Numbers}
-use Rattle.layout.specs.Verdicts.{lowestDue, SoundOf}
+use Rattle.layout.specs.Records.{lowestDue, Answers, AnswersQuick, fingerprintOf, HoldsOf}
+use Rattle.layout.specs.Outcomes.{Settled}
 use Rattle.filter.specs.declared.contains.Lookup.{Lookup}
 use Rattle.filter.specs.declared.contains.Counting.{Counting}
 use Rattle.filter.specs.declared.listing.Place.{Place}
@@ -22,14 +23,10 @@ use Rattle.filter.specs.declared.listing.Begun.{Begun}
 use Rattle.filter.specs.declared.reader.Reader.{Reader}
 use Rattle.filter.specs.declared.reader.Two.{Two}
 use Rattle.filter.specs.Says.{lookupSays, lookup-tells, countingSays, counting-tells, begunSays, begun-tells}
-use Rattle.filter.specs.Asking.{Answers, AnswersQuick, Contains, ContainsQuick, Count, CountQuick, fingerprintOf, lookupOf}
+use Rattle.filter.specs.Asking.{Contains, ContainsQuick, Count, CountQuick, lookupOf}
 use Rattle.filter.specs.Places.{stepped, nowhere, placeOf}
-use Rattle.filter.specs.Listing.{HoldsOf, Begins, Listed, step-is-one}
+use Rattle.filter.specs.Listing.{Begins, Listed, step-is-one}
 use Rattle.filter.specs.Reading.{Moved, TwoListed}
-
--- a number 1 to 5 is due, or the buffer is sound
-abbrev pub Settled : Numbers → List ℕ → Type 0
-Settled n s = (0 < lowestDue n s) ⊎ SoundOf n s
 
 -- ---- calls that only answer: what they say is one, and tells the answer
 module _ {E A : Type 0} (says : E → Answer A) (tells : (a b : E) → says a ≡ says b → a ≡ b) (right : List ℕ → A) (n : Numbers) (s : List ℕ) where
@@ -65,15 +62,6 @@ count-fingerprint-quick-pinned n s hash = quick-answer countingSays counting-tel
 
 pub begin-pinned : (n : Numbers) (s : List ℕ) (a b : Begun) → Begins n s a → Begins n s b → a ≡ b
 begin-pinned n s = checked-answer begunSays begun-tells (λ l. placeOf (n .qbits) (n .rbits) l 0) n s
-
--- ---- for calls that write: an outcome is the answer and the rest, the buffer or buffers afterwards
-pub alike : {E A R : Type 0} (says : E → A) → ((a b : E) → says a ≡ says b → a ≡ b) → {v : A} {t : R} (x y : E × R) → (says (x .0) ≡ v) × (x .1 ≡ t) → (says (y .0) ≡ v) × (y .1 ≡ t) → x ≡ y
-alike says tells x y p q =
-    let e = tells (x .0) (y .0) (p .0 ∙ sym (q .0)) in
-    λ i. (e i, (p .1 ∙ sym (q .1)) i)
-
-pub apart : {E R : Type 0} (x y : E × R) → x ≡ y → (x .0 ≡ y .0) × (x .1 ≡ y .1)
-apart x y e = (ap (λ z. z .0) e, ap (λ z. z .1) e)
 
 -- ---- steps of a listing
 -- a number 1 to 5 is due, or none remain, or the buffer is sound and the place is one of the list held

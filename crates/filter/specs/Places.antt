@@ -11,9 +11,8 @@ use Rattle.theory.specs.Shape.{slots}
 use Rattle.theory.specs.Holding.{run}
 use Rattle.theory.specs.Image.{many, start, carry, walk, runAt}
 use Rattle.theory.specs.Listing.{quotientAt, slotAt}
-use Rattle.theory.specs.number.Bytes.{le}
-use Rattle.theory.specs.layout.Block.{views}
-use Rattle.theory.specs.layout.Places.{Kth}
+use Rattle.layout.specs.Whole.{viewsIn}
+use Rattle.theory.specs.reading.ListingPlaces.{Kth}
 use Rattle.layout.specs.declared.shape.Shape.{Shape}
 use Rattle.filter.specs.declared.listing.Place.{Place}
 use Rattle.filter.specs.declared.listing.Step.{Step}
@@ -32,7 +31,7 @@ nowhere = record { quotient = 0; slot = 0; remaining = 0 }
 abbrev pub done : Stepped
 done = stepped Done nowhere
 
--- the place after k steps: the next fingerprint's quotient, its slot and how many remain, all 0 when none do
+-- the place after k steps: quotient and slot of the fingerprint to come, and how many are to come; three zeros at the end
 unfoldable pub placeOf : ℕ → ℕ → List ℕ → ℕ → Place
 placeOf q r l k =
     choose (decLt k (length l)) (record { quotient = quotientAt (2 ^ r) l k; slot = slotAt (slots q) (2 ^ r) l k; remaining = length l - k }) nowhere
@@ -54,7 +53,7 @@ Moves h b x s left p = (l : List ℕ) → Shows h b l → (k : ℕ) → Stands h
 
 -- a run ends in slot s
 abbrev pub Ends : Shape → List ℕ → ℕ → Type 0
-Ends h b s = views (h .rbits) (le b) .runend s ≡ 1
+Ends h b s = viewsIn h b .runend s ≡ 1
 
 -- the place of the first of len fingerprints
 abbrev pub First : Shape → List ℕ → ℕ → Place → Type 0

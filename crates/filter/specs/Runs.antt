@@ -1,16 +1,16 @@
 -- Where runends stand and runs end, as the walks over blocks answer.
-use Prim.Native.Nat.{ℕ, suc, _+_, _-_, _*_, _/_, _%_, _^_, _≤_, _<_, min, max}
+use Prim.Native.Nat.{ℕ, suc, _+_, _-_, _*_, _/_, _%_, _^_, _≤_, _<_, max}
 use mathlib.Core.Path.{_≡_, sym, ap, _∙_}
 use native.Mathlib.Omega.{arith}
 use Rattle.theory.specs.tools.Total.{total}
 use Rattle.theory.specs.number.Field.{field}
 use Rattle.theory.specs.number.Count.{rank}
 use Rattle.theory.specs.Image.{Views, carry, start}
-use Rattle.theory.specs.layout.Block.{views, wordAt}
-use Rattle.theory.specs.layout.Ring.{ringAt}
+use Rattle.theory.specs.images.Block.{views, wordAt}
+use Rattle.theory.specs.reading.Ring.{ringAt}
 use Rattle.theory.specs.carry.Carry.{FirstFree}
-use Rattle.theory.specs.layout.Offsets.{Offsets}
-use Rattle.theory.specs.layout.Behind.{Runs, behind-none, behind-some, behind-found}
+use Rattle.theory.specs.reading.Offsets.{Offsets}
+use Rattle.theory.specs.reading.BehindRun.{Runs, behind-none, behind-some, behind-found}
 use Rattle.bits.specs.declared.select.Found.{Found}
 use Rattle.bits.specs.declared.select.Found.the-variants.{At, Nothing}
 use Rattle.filter.specs.declared.runs.InBlock.{InBlock}
@@ -35,25 +35,15 @@ pub record Behind (m : ℕ) (v : Views) (x o : ℕ) (f : Found) : Type 0 where
   pub right : (n : ℕ → ℕ) → Runs m n v → o ≡ carry m n (64 * (x / 64)) → f ≡ At (start m n (suc x))
   pub bound : Within (suc x) (x + o + m + 65) f
 
--- how many blocks before block b the nearest one stands whose byte is below 255; 0 if no byte is
-pub record Back (B : ℕ) (v : Views) (b k : ℕ) : Type 0 where
-  pub within : k ≤ B
-  pub tells : 0 < k → v .offset ((b + B - k) % B) < 255
-  pub none : k ≡ 0 → (c : ℕ) → c < B → 255 ≤ v .offset c
+-- the carry before the block behind block b, told by the carry o before b
+pub record NextCarry (m : ℕ) (v : Views) (b o : ℕ) (f : Found) : Type 0 where
+  pub right : (n : ℕ → ℕ) → Runs m n v → o ≡ carry m n (64 * b) → f ≡ At (carry m n (64 * b + 64))
+  pub bound : Within 0 m f
 
--- the carry before block b
-pub record OffsetOf (m : ℕ) (v : Views) (b o : ℕ) : Type 0 where
-  pub right : (n : ℕ → ℕ) → Runs m n v → Offsets m n v → o ≡ carry m n (64 * b)
-  pub bound : o ≤ 2 ^ 60
-
--- the first slot of the run of x, and its last (of an empty run, the slot before the next quotient's)
-pub record RunStart (m : ℕ) (v : Views) (x s : ℕ) : Type 0 where
-  pub right : (n : ℕ → ℕ) → Runs m n v → Offsets m n v → s ≡ start m n x % m
-  pub bound : s < m
-
-pub record RunEnd (m : ℕ) (v : Views) (x s : ℕ) : Type 0 where
-  pub right : (n : ℕ → ℕ) → Runs m n v → Offsets m n v → s ≡ (start m n (suc x) - 1) % m
-  pub bound : s < m
+-- how far behind slot s, not taken round the end, the slot behind its quotient's run is
+pub record PastRun (m : ℕ) (v : Views) (s : ℕ) (f : Found) : Type 0 where
+  pub right : (n : ℕ → ℕ) → Runs m n v → Offsets m n v → f ≡ At (start m n (suc s) - s)
+  pub bound : Within 1 (2 ^ 60 + m + 65) f
 
 -- the first free slot from slot x on, not taken round the end
 pub record FreeFrom (m : ℕ) (v : Views) (x : ℕ) (f : Found) : Type 0 where

@@ -1,6 +1,6 @@
 -- What the scans of a run answer.
 use Prim.Native.Nat.{ℕ, suc, _+_, _-_, _%_, _≤_, _<_}
-use mathlib.Core.Path.{_≡_, refl, sym, ap, _∙_}
+use mathlib.Core.Path.{_≡_, sym, ap, _∙_}
 use mathlib.Core.Logic.{_≢_}
 use mathlib.Core.List.{List}
 use native.Mathlib.Omega.{arith}
@@ -11,7 +11,7 @@ use Rattle.theory.specs.tools.Choose.{choose, choose-yes, choose-no}
 use Rattle.theory.specs.Holding.{copies, seek}
 use Rattle.theory.specs.Image.{Views}
 use Rattle.theory.specs.list.Scan.{seek-pass, seek-stop, copies-pass, copies-meet, seek-over, copies-over, copies-next, seek-copies}
-use Rattle.theory.specs.layout.RunAt.{RunAt}
+use Rattle.theory.specs.reading.RunAt.{RunAt}
 use Rattle.filter.specs.declared.lookup.Seen.{Seen}
 use Rattle.filter.specs.declared.lookup.Seen.the-variants.{At, Absent}
 
@@ -19,7 +19,7 @@ use Rattle.filter.specs.declared.lookup.Seen.the-variants.{At, Absent}
 abbrev pub RunIn : ℕ → Views → ℕ → List ℕ → Type 0
 RunIn m v at l = RunAt (λ t. v .runend (t % m)) (λ t. v .remainder (t % m)) at l
 
--- the place, from 1, of the first equal remainder of a run, or how many there are
+-- where the first equal remainder of a run stands, counted from 1; or the run's length
 abbrev pub seenIn : ℕ → List ℕ → Seen
 seenIn rem l = choose (decLe 1 (copies rem l)) (At (seek rem l)) (Absent (seek rem l))
 
@@ -40,9 +40,6 @@ pub record Passed (rem : ℕ) (l : List ℕ) (k : ℕ) : Type 0 where
 
 abbrev pub Passing : ℕ → Views → ℕ → ℕ → ℕ → Type 0
 Passing m v at rem k = (l : List ℕ) → RunIn m v at l → length l < m → Passed rem l k
-
-pub passing-none : (m : ℕ) (v : Views) (at rem : ℕ) → Passing m v at rem 0
-passing-none m v at rem l w h = record { within = w .some; sought = omega arith; copied = refl }
 
 module _ (m : ℕ) (v : Views) (at rem k here : ℕ) (p : Passing m v at rem k) (e : here ≡ v .remainder ((at + k) % m)) where
   cell : (l : List ℕ) (w : RunIn m v at l) (h : length l < m) → getD l k 0 ≡ here
@@ -101,9 +98,6 @@ pub record Counted (m : ℕ) (v : Views) (at from rem a : ℕ) : Type 0 where
 pub record Counting (m : ℕ) (v : Views) (at from rem k count : ℕ) : Type 0 where
   pub right : (l : List ℕ) → RunIn m v at l → length l < m → from < length l → (k < length l) × (count + copies rem (drop k l) ≡ copies rem (drop from l))
   pub bound : count + from ≤ k
-
-pub counting-none : (m : ℕ) (v : Views) (at from rem : ℕ) → Counting m v at from rem from 0
-counting-none m v at from rem = record { right = λ l w h f. (f, omega arith); bound = omega arith }
 
 module _ (m : ℕ) (v : Views) (at from rem k count here e : ℕ) (p : Counting m v at from rem k count) (is : here ≡ v .remainder ((at + k) % m))
     (one : here ≡ rem → e ≡ 1) (none : (here ≡ rem → ⊥) → e ≡ 0) (bit : e ≤ 1) where

@@ -6,20 +6,20 @@ use mathlib.Core.List.{List, [], _∷_, _++_, map}
 use native.Mathlib.Omega.{arith}
 use native.Mathlib.Decide.{decLt}
 use native.Mathlib.Nat.{add-zero}
-use lib.ListN.{length, getD, take, drop, length-append, length-drop, length-map, replicate}
+use lib.ListN.{length, getD, drop, length-append, length-drop, length-map, replicate}
 use lib.Seq.{drop-cons}
-use Rattle.theory.specs.layout.Images.{image-tells}
-use Rattle.theory.specs.check.Promises.{not-refused}
+use Rattle.theory.specs.images.ImageBytes.{image-tells}
+use Rattle.theory.specs.refusals.Demands.{not-refused}
 use Rattle.layout.specs.declared.numbers.Numbers.{Numbers}
 use Rattle.filter.specs.declared.listing.Place.{Place}
 use Rattle.filter.specs.declared.listing.Step.{Step}
 use Rattle.filter.specs.declared.listing.Step.the-variants.{Fingerprint, Done}
 use Rattle.filter.specs.declared.listing.Stepped.{Stepped}
 use Rattle.filter.specs.declared.listing.Begun.the-variants as begun
-use Rattle.layout.specs.Verdicts.{lowestDue}
+use Rattle.layout.specs.Records.{lowestDue, HoldsOf}
 use Rattle.filter.specs.Places.{stepped, nowhere, done, placeOf, stepOf, place-none, place-left, step-some, step-none}
 use Rattle.layout.specs.Judging.{clear-whole}
-use Rattle.filter.specs.Listing.{HoldsOf, Begins, Listed, step-is, listed-step, listed-done}
+use Rattle.filter.specs.Listing.{Begins, Listed, step-is, listed-step, listed-done}
 
 -- ---- the steps of a list
 drop-over : (k : ℕ) (l : List ℕ) → length l ≤ k → drop k l ≡ []
@@ -57,13 +57,6 @@ module _ (q r : ℕ) (l : List ℕ) where
   pub answers-all : answers 0 (suc (length l)) ≡ map Fingerprint l ++ (Done ∷ [])
   answers-all = answers-from l 0 refl
 
-  answers-part : (c k : ℕ) → k + c ≤ length l → answers k c ≡ map Fingerprint (take c (drop k l))
-  unfolding answers
-  answers-part zero k b = refl
-  answers-part (suc c) k b =
-      let d : k < length l = omega arith in
-      rw (drop-cons l k 0 d) (ap₂ _∷_ (ap (λ (z : Stepped). z .step) (step-some q r l k d)) (answers-part c (suc k) (omega arith)))
-
   -- steps that give fingerprints and then done for the first time give all from step k on
   answers-until : (fs : List ℕ) (k : ℕ) → map Fingerprint fs ++ (Done ∷ []) ≡ answers k (length (map Fingerprint fs ++ (Done ∷ []))) → fs ≡ drop k l
   unfolding answers
@@ -79,10 +72,6 @@ module _ (q r : ℕ) (l : List ℕ) where
           let d : f ≡ getD l k 0 = cc (e, ap (λ (z : Stepped). z .step) (step-some q r l k b)) in
           rw (drop-cons l k 0 b) (ap₂ _∷_ d (ih (cc e)))
       go (no b) ih = let z : _≡_ {A = ℕ} 0 1 = cc (e, ap (λ (z : Stepped). z .step) (step-none q r l k (omega arith))) in absurd (omega arith)
-
-  -- a place of the list tells how many steps were taken
-  pub place-tells : (j k : ℕ) → j ≤ length l → k ≤ length l → placeOf q r l j ≡ placeOf q r l k → j ≡ k
-  place-tells j k a b e = omega (arith, place-left q r l j, place-left q r l k, ap (λ (p : Place). p .remaining) e)
 
   same-step : (j k : ℕ) → placeOf q r l j ≡ placeOf q r l k → stepOf q r l j ≡ stepOf q r l k
   same-step j k e = go (decLt j (length l))
@@ -116,10 +105,6 @@ module _ (n : Numbers) (s l : List ℕ) (e : lowestDue n s ≡ 0) (h : HoldsOf n
   place-after ts p g =
       let z : 0 + length ts ≡ length ts = omega arith in
       rw z at (goes-from ts 0 _ p refl g .1)
-
-  -- len steps or fewer from the first place give as many fingerprints of the list held, so none of them is done
-  pub part-listing : (ts : List Step) (p : Place) → length ts ≤ n .len → Goes n s (placeOf (n .qbits) (n .rbits) l 0) ts p → ts ≡ map Fingerprint (take (length ts) l)
-  part-listing ts p c g = goes-from ts 0 _ p refl g .0 ∙ answers-part (n .qbits) (n .rbits) l (length ts) 0 (omega (arith, h .many))
 
   -- len + 1 steps give exactly the list held, then done
   pub whole-listing : (ts : List Step) (p : Place) → length ts ≡ suc (n .len) → Goes n s (placeOf (n .qbits) (n .rbits) l 0) ts p
@@ -161,14 +146,6 @@ pub begun-at : (n : Numbers) (s : List ℕ) (p : Place) → Begins n s (begun.At
 begun-at n s p b =
     let y = not-refused _ _ _ _ s _ _ b (λ k e. let z : _≡_ {A = ℕ} 0 1 = cc in omega arith) in
     (y .0 .held, y .0 .holds, y .0 .none, cc (y .1))
-
--- len + 1 steps from its place: the fingerprints of that list, then done
-pub begun-listing : (n : Numbers) (s : List ℕ) (p p′ : Place) (ts : List Step) → Begins n s (begun.At p) → length ts ≡ suc (n .len) → Goes n s p ts p′
-    → (l : List ℕ) × HoldsOf n s l × (ts ≡ map Fingerprint l ++ (Done ∷ [])) × (p′ ≡ nowhere)
-begun-listing n s p p′ ts b c g =
-    let y = begun-at n s p b in
-    let w = whole-listing n s (y .0) (y .2) (y .1) ts p′ c (subst (λ (m : Place). Goes n s m ts p′) (y .3) g) in
-    (y .0, y .1, w .0, w .1)
 
 -- the steps from its place up to the first done: they give exactly that list, and they are len + 1
 pub begun-until-done : (n : Numbers) (s : List ℕ) (p p′ : Place) (fs : List ℕ) → Begins n s (begun.At p) → Goes n s p (map Fingerprint fs ++ (Done ∷ [])) p′

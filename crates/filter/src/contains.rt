@@ -2,13 +2,12 @@
 ghost use mathlib.Core.Path.{_≡_};
 ghost use Rattle.filter.specs.Asking.{Contains, ContainsQuick, Count, CountQuick, lookupFrom};
 use crate::lookup::Seen;
-use crate::lookup::look;
-use crate::lookup::tally;
+use crate::lookup::count_hash;
+use crate::lookup::find_hash;
 use layout::check::Verdict;
 use layout::check::check;
 use layout::numbers::Numbers;
 use layout::numbers::number_due;
-use layout::shape::Shape;
 
 // Held or not, with the number of remainders compared; or refused.
 pub enum Lookup {
@@ -23,6 +22,7 @@ pub enum Counting {
     Refused(u8),
 }
 
+// What a scan found, as the answer of a lookup.
 fn lookup_from(seen: Seen) -> Lookup
     ensures { λ r. ⌜ r ≡ lookupFrom seen ⌝ }
 {
@@ -32,6 +32,7 @@ fn lookup_from(seen: Seen) -> Lookup
     }
 }
 
+// Is the fingerprint of a hash held: the whole buffer is checked first.
 pub fn contains_fingerprint(buf: &[u8], n: Numbers, hash: u64) -> Lookup
     ensures { λ r. ⌜ Contains n (now (buf .entry)) hash r ⌝ }
 {
@@ -39,16 +40,10 @@ pub fn contains_fingerprint(buf: &[u8], n: Numbers, hash: u64) -> Lookup
     if let Verdict::Refused(k) = verdict {
         return Lookup::Refused(k);
     }
-    lookup_from(look(
-        buf,
-        Shape {
-            qbits: n.qbits,
-            rbits: n.rbits,
-        },
-        hash,
-    ))
+    lookup_from(find_hash(buf, n.shape(), hash))
 }
 
+// The same without the check: only numbers 1 to 5 are asked first.
 pub fn contains_fingerprint_quick(buf: &[u8], n: Numbers, hash: u64) -> Lookup
     ensures { λ r. ⌜ ContainsQuick n (now (buf .entry)) hash r ⌝ }
 {
@@ -56,16 +51,10 @@ pub fn contains_fingerprint_quick(buf: &[u8], n: Numbers, hash: u64) -> Lookup
     if 0 < due {
         return Lookup::Refused(due);
     }
-    lookup_from(look(
-        buf,
-        Shape {
-            qbits: n.qbits,
-            rbits: n.rbits,
-        },
-        hash,
-    ))
+    lookup_from(find_hash(buf, n.shape(), hash))
 }
 
+// How often the fingerprint of a hash is held: the whole buffer is checked first.
 pub fn count_fingerprint(buf: &[u8], n: Numbers, hash: u64) -> Counting
     ensures { λ r. ⌜ Count n (now (buf .entry)) hash r ⌝ }
 {
@@ -73,16 +62,10 @@ pub fn count_fingerprint(buf: &[u8], n: Numbers, hash: u64) -> Counting
     if let Verdict::Refused(k) = verdict {
         return Counting::Refused(k);
     }
-    Counting::Copies(tally(
-        buf,
-        Shape {
-            qbits: n.qbits,
-            rbits: n.rbits,
-        },
-        hash,
-    ))
+    Counting::Copies(count_hash(buf, n.shape(), hash))
 }
 
+// The same without the check: only numbers 1 to 5 are asked first.
 pub fn count_fingerprint_quick(buf: &[u8], n: Numbers, hash: u64) -> Counting
     ensures { λ r. ⌜ CountQuick n (now (buf .entry)) hash r ⌝ }
 {
@@ -90,12 +73,5 @@ pub fn count_fingerprint_quick(buf: &[u8], n: Numbers, hash: u64) -> Counting
     if 0 < due {
         return Counting::Refused(due);
     }
-    Counting::Copies(tally(
-        buf,
-        Shape {
-            qbits: n.qbits,
-            rbits: n.rbits,
-        },
-        hash,
-    ))
+    Counting::Copies(count_hash(buf, n.shape(), hash))
 }

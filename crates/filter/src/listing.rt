@@ -1,16 +1,15 @@
-// The listing: ascending fingerprints, each as often as held, then done. A place by value says where it stands, and a step moves it on.
+// The listing: what is held in ascending order, copy by copy, and then the end. A place by value says how far it is, and a step moves it on.
 ghost use mathlib.Core.Path.{_≡_};
-ghost use Prim.Native.Nat.{ℕ, _+_, _*_, _%_, _^_, _<_, _≤_};
+ghost use Prim.Native.Nat.{_+_, _*_, _%_, _^_, _<_, _≤_};
 ghost use lib.ListN.{length};
 ghost use Rattle.theory.specs.Shape.{slots, Widths};
-ghost use Rattle.theory.specs.number.Bytes.{le};
-ghost use Rattle.theory.specs.layout.Block.{views};
-ghost use Rattle.layout.specs.Whole.{Whole};
+ghost use Rattle.layout.specs.Whole.{Whole, viewsIn};
 ghost use Rattle.filter.specs.Listing.{Begins, Listed};
 ghost use Rattle.filter.specs.Occupied.{NextOccupied};
 ghost use Rattle.filter.specs.Places.{nowhere, done, stepped, Ends, Moves, First, Steps};
-use crate::runs::larger;
 use crate::runs::run_start;
+use crate::runs::unrolled;
+use bits::compare::larger;
 use bits::select::Found;
 use layout::check::Verdict;
 use layout::check::check;
@@ -19,7 +18,7 @@ use layout::numbers::number_due;
 use layout::shape::Shape;
 use layout::slot;
 
-// The next fingerprint's quotient, its slot and how many remain; all 0 when none do.
+// How far a listing is: quotient and slot of the fingerprint to come, and how many are to come; three zeros at the end.
 #[repr(C)]
 pub struct Place {
     pub quotient: u64,
@@ -27,6 +26,7 @@ pub struct Place {
     pub remaining: u64,
 }
 
+// A step's answer: the next fingerprint, done, or refused.
 pub enum Step {
     Fingerprint(u64),
     Done,
@@ -39,11 +39,13 @@ pub struct Stepped {
     pub place: Place,
 }
 
+// A beginning's answer: the place of the first fingerprint, or refused.
 pub enum Begun {
     At(Place),
     Refused(u8),
 }
 
+// The place of a listing that is over.
 fn none_left() -> Place
     ensures { λ r. ⌜ r ≡ nowhere ⌝ }
 {
@@ -54,6 +56,7 @@ fn none_left() -> Place
     }
 }
 
+// The step from there: done, and it stays there.
 fn finished() -> Stepped
     ensures { λ r. ⌜ r ≡ done ⌝ }
 {
@@ -66,7 +69,7 @@ fn finished() -> Stepped
 // The first occupied quotient from `from` on, a word of occupieds at a time.
 fn next_occupied(buf: &[u8], shape: Shape, from: u64) -> Found
     requires { ⌜ (Whole shape (length (now buf))) × (from ≤ slots (shape .qbits)) ⌝ }
-    ensures { λ r. ⌜ NextOccupied (slots (shape .qbits)) (views (shape .rbits) (le (now (buf .entry)))) from r ⌝ }
+    ensures { λ r. ⌜ NextOccupied (slots (shape .qbits)) (viewsIn shape (now (buf .entry))) from r ⌝ }
 {
     let blocks = shape.blocks();
     let mut b = from / 64;
@@ -94,14 +97,6 @@ fn wrapped(t: u64, slots: u64) -> u64
     if t < slots { t } else { t - slots }
 }
 
-// Where slot s stands behind quotient x, if less than a round behind it.
-fn unwrapped(s: u64, x: u64, slots: u64) -> u64
-    requires { ⌜ (s < slots) × (x < slots) × (slots ≤ 2 ^ 59) ⌝ }
-    ensures { λ r. ⌜ (x ≤ s → r ≡ s) × (s < x → r ≡ s + slots) × (r + 1 < slots + slots) ⌝ }
-{
-    if x <= s { s } else { s + slots }
-}
-
 // The fingerprint of a quotient and a remainder.
 fn joined(shape: Shape, x: u64, rem: u64) -> u64
     requires { ⌜ (Widths (shape .qbits) (shape .rbits)) × (x < slots (shape .qbits)) × (rem < 2 ^ shape .rbits) ⌝ }
@@ -119,7 +114,7 @@ fn next_run(buf: &[u8], shape: Shape, x: u64, s: u64, left: u64) -> Place
     let Found::At(y) = next_occupied(buf, shape, x + 1) else {
         return none_left();
     };
-    let end = unwrapped(s, x, slots) + 1;
+    let end = unrolled(s, x, slots) + 1;
     Place {
         quotient: y,
         slot: wrapped(larger(end, y), slots),
@@ -195,10 +190,7 @@ pub fn begin(buf: &[u8], n: Numbers) -> Begun
     match verdict {
         Verdict::Refused(number) => Begun::Refused(number),
         Verdict::Sound => {
-            let shape = Shape {
-                qbits: n.qbits,
-                rbits: n.rbits,
-            };
+            let shape = n.shape();
             Begun::At(first_place(buf, shape, n.len))
         }
     }
@@ -215,14 +207,7 @@ pub fn step_from(buf: &[u8], n: Numbers, place: Place) -> Stepped
             place,
         };
     }
-    step_core(
-        buf,
-        Shape {
-            qbits: n.qbits,
-            rbits: n.rbits,
-        },
-        place,
-    )
+    step_core(buf, n.shape(), place)
 }
 
 // A place is lent, and moved on by one fingerprint.

@@ -1,24 +1,23 @@
 // Is a fingerprint held, and how often.
 ghost use mathlib.Core.Path.{_≡_};
-ghost use Prim.Native.Nat.{ℕ, _+_, _*_, _/_, _%_, _^_, _<_, _≤_};
+ghost use Prim.Native.Nat.{_/_, _%_, _^_, _<_};
 ghost use lib.ListN.{length};
 ghost use Rattle.theory.specs.Shape.{slots, fingerprint, Widths};
-ghost use Rattle.theory.specs.number.Bytes.{le};
-ghost use Rattle.theory.specs.layout.Block.{views};
-ghost use Rattle.layout.specs.Whole.{Whole};
+ghost use Rattle.layout.specs.Whole.{Whole, viewsIn};
 ghost use Rattle.filter.specs.Scan.{Sought, Counted};
 ghost use Rattle.filter.specs.Lookup.{Seeks, Counts};
 use crate::runs::run_start;
+use bits::compare::equal;
 use layout::shape::Shape;
 use layout::slot;
 
-// What a scan of a run finds: the place, from 1, of the first equal remainder, or how many there are, none of them equal.
+// What a scan of a run finds: where the first equal remainder stands, counted from 1; or the run's length, if none is equal.
 pub enum Seen {
     At(u64),
     Absent(u64),
 }
 
-// The quotient and the remainder of the fingerprint that a hash has.
+// The quotient of the fingerprint that a hash has.
 pub fn quotient(shape: Shape, hash: u64) -> u64
     requires { ⌜ Widths (shape .qbits) (shape .rbits) ⌝ }
     ensures { λ r. ⌜ (r ≡ fingerprint (shape .qbits) (shape .rbits) hash / 2 ^ shape .rbits) × (r < slots (shape .qbits)) ⌝ }
@@ -26,6 +25,7 @@ pub fn quotient(shape: Shape, hash: u64) -> u64
     (hash >> shape.rbits) % shape.slots()
 }
 
+// The remainder of the fingerprint that a hash has.
 pub fn remainder(shape: Shape, hash: u64) -> u64
     requires { ⌜ Widths (shape .qbits) (shape .rbits) ⌝ }
     ensures { λ r. ⌜ (r ≡ fingerprint (shape .qbits) (shape .rbits) hash % 2 ^ shape .rbits) × (r < 2 ^ shape .rbits) ⌝ }
@@ -34,9 +34,9 @@ pub fn remainder(shape: Shape, hash: u64) -> u64
 }
 
 // The first remainder equal to `rem` in the run that starts at slot `at`, left from inside once it or the run's end is met.
-fn seek(buf: &[u8], shape: Shape, at: u64, rem: u64) -> Seen
+fn first_equal(buf: &[u8], shape: Shape, at: u64, rem: u64) -> Seen
     requires { ⌜ (Whole shape (length (now buf))) × (at < slots (shape .qbits)) ⌝ }
-    ensures { λ r. ⌜ Sought (slots (shape .qbits)) (views (shape .rbits) (le (now (buf .entry)))) at rem r ⌝ }
+    ensures { λ r. ⌜ Sought (slots (shape .qbits)) (viewsIn shape (now (buf .entry))) at rem r ⌝ }
 {
     let slots = shape.slots();
     let mut k = 0;
@@ -56,8 +56,8 @@ fn seek(buf: &[u8], shape: Shape, at: u64, rem: u64) -> Seen
     seen
 }
 
-// The scan of the run that a hash belongs to.
-pub fn look(buf: &[u8], shape: Shape, hash: u64) -> Seen
+// Where the fingerprint of a hash first stands in its run, or that it is absent.
+pub fn find_hash(buf: &[u8], shape: Shape, hash: u64) -> Seen
     requires { ⌜ Whole shape (length (now buf)) ⌝ }
     ensures { λ r. ⌜ Seeks shape (now (buf .entry)) hash r ⌝ }
 {
@@ -65,22 +65,15 @@ pub fn look(buf: &[u8], shape: Shape, hash: u64) -> Seen
     if slot::is_occupied(buf, shape, x) == 0 {
         return Seen::Absent(0);
     }
-    // `&*buf`, here and in `tally`: a slice handed on as it came is copied whole first, and the copy waits for memory.
+    // `&*buf`, here and in `count_hash`: a slice handed on as it came is copied whole first, and the copy waits for memory.
     let at = run_start(&*buf, shape, x);
-    seek(buf, shape, at, remainder(shape, hash))
-}
-
-// 1 if a equals b, else 0.
-pub fn equal(a: u64, b: u64) -> u64
-    ensures { λ r. ⌜ (a ≡ b → r ≡ 1) × ((a ≡ b → ⊥) → r ≡ 0) × (r ≤ 1) ⌝ }
-{
-    if a == b { 1 } else { 0 }
+    first_equal(buf, shape, at, remainder(shape, hash))
 }
 
 // How many remainders equal `rem` in the run that starts at slot `at`, from its place `from` on.
 fn count_from(buf: &[u8], shape: Shape, at: u64, from: u64, rem: u64) -> u64
     requires { ⌜ (Whole shape (length (now buf))) × (at < slots (shape .qbits)) × (from < slots (shape .qbits)) ⌝ }
-    ensures { λ r. ⌜ Counted (slots (shape .qbits)) (views (shape .rbits) (le (now (buf .entry)))) at from rem r ⌝ }
+    ensures { λ r. ⌜ Counted (slots (shape .qbits)) (viewsIn shape (now (buf .entry))) at from rem r ⌝ }
 {
     let slots = shape.slots();
     let mut k = from;
@@ -100,7 +93,7 @@ fn count_from(buf: &[u8], shape: Shape, at: u64, from: u64, rem: u64) -> u64
 }
 
 // How often the fingerprint of a hash is held.
-pub fn tally(buf: &[u8], shape: Shape, hash: u64) -> u64
+pub fn count_hash(buf: &[u8], shape: Shape, hash: u64) -> u64
     requires { ⌜ Whole shape (length (now buf)) ⌝ }
     ensures { λ r. ⌜ Counts shape (now (buf .entry)) hash r ⌝ }
 {
@@ -110,7 +103,7 @@ pub fn tally(buf: &[u8], shape: Shape, hash: u64) -> u64
     }
     let at = run_start(&*buf, shape, x);
     let rem = remainder(shape, hash);
-    let Seen::At(k) = seek(buf, shape, at, rem) else {
+    let Seen::At(k) = first_equal(buf, shape, at, rem) else {
         return 0;
     };
     count_from(buf, shape, at, k - 1, rem)

@@ -1,4 +1,4 @@
-// A reader keeps the lent buffer together with its place in the listing.
+// A reader: a lent buffer, its record and how far the listing of it is.
 ghost use mathlib.Core.Path.{_≡_};
 ghost use Rattle.filter.specs.Reading.{Moved, TwoListed};
 use crate::listing::Place;
@@ -6,6 +6,7 @@ use crate::listing::Step;
 use crate::listing::step_from;
 use layout::numbers::Numbers;
 
+// A listing that has its buffer with it: the buffer, its numbers and the place of the next fingerprint.
 pub struct Reader<'a> {
     pub buf: &'a [u8],
     pub numbers: Numbers,
@@ -19,6 +20,7 @@ pub struct Two {
     pub place: Place,
 }
 
+// A reader of a lent buffer, at a place of its listing.
 pub fn reader_new<'a>(buf: &'a [u8], numbers: Numbers, place: Place) -> Reader<'a>
     ensures { λ r. ⌜ (r .buf ≡ buf .entry) × (r .numbers ≡ numbers) × (r .place ≡ place) ⌝ }
 {

@@ -1,15 +1,16 @@
 // Where runs start and end: occupieds counted in a block, runends selected from its offset on.
-ghost use mathlib.Core.Path.{_≡_};
-ghost use Prim.Native.Nat.{ℕ, _+_, _*_, _^_, _<_, _≤_, max};
+ghost use Prim.Native.Nat.{_^_, _<_, _≤_};
 ghost use lib.ListN.{length};
 ghost use Rattle.theory.specs.Shape.{slots, blocks};
 ghost use Rattle.theory.specs.number.Bytes.{le};
-ghost use Rattle.theory.specs.layout.Block.{views};
-ghost use Rattle.theory.specs.layout.Ring.{ringAt};
-ghost use Rattle.layout.specs.Whole.{Whole};
-ghost use Rattle.filter.specs.Near.{Pending};
-ghost use Rattle.filter.specs.Runs.{InWord, NthRunend, Behind, Back, OffsetOf, RunStart, RunEnd, FreeFrom};
+ghost use Rattle.theory.specs.reading.Ring.{ringAt};
+ghost use Rattle.layout.specs.Whole.{Whole, viewsIn};
+ghost use Rattle.theory.specs.reading.StartNear.{Pending};
+ghost use Rattle.theory.specs.reading.Walks.{NearestTold, OffsetOf, RunStart, RunEnd, Unrolled};
+ghost use Rattle.filter.specs.Runs.{InWord, NthRunend, Behind, NextCarry, PastRun, FreeFrom};
+use bits::compare::larger;
 use bits::select::Found;
+use bits::select::Nth;
 use layout::shape::Shape;
 use layout::slot;
 
@@ -19,12 +20,13 @@ pub enum InBlock {
     On(u64),
 }
 
+// The runend looked for in the word w, from its digit `skip` on, with `left` to be passed.
 fn runend_in(w: u64, skip: u64, left: u64) -> InBlock
     requires { ⌜ skip < 64 ⌝ }
     ensures { λ r. ⌜ InWord w skip left r ⌝ }
 {
     let high = w >> skip;
-    let Found::At(p) = bits::select::select(high, left) else {
+    let Nth::At(p) = bits::select::select(high, left) else {
         return InBlock::On(left - bits::count::ones(high));
     };
     InBlock::End(skip + p)
@@ -56,16 +58,10 @@ fn nth_runend(buf: &[u8], shape: Shape, at: u64, n: u64) -> Found
     Found::Nothing
 }
 
-pub fn larger(a: u64, b: u64) -> u64
-    ensures { λ r. ⌜ r ≡ max a b ⌝ }
-{
-    if a < b { b } else { a }
-}
-
 // The slot behind the run of x, if o is the offset of its block.
-pub fn behind_run(buf: &[u8], shape: Shape, x: u64, o: u64) -> Found
+fn behind_run(buf: &[u8], shape: Shape, x: u64, o: u64) -> Found
     requires { ⌜ (Whole shape (length (now buf))) × (x < slots (shape .qbits)) × (o ≤ 2 ^ 60) ⌝ }
-    ensures { λ r. ⌜ Behind (slots (shape .qbits)) (views (shape .rbits) (le (now (buf .entry)))) x o r ⌝ }
+    ensures { λ r. ⌜ Behind (slots (shape .qbits)) (viewsIn shape (now (buf .entry))) x o r ⌝ }
 {
     let b = x / 64;
     let k = bits::count::ones_through(slot::occupieds(buf, shape, b), x % 64);
@@ -78,10 +74,26 @@ pub fn behind_run(buf: &[u8], shape: Shape, x: u64, o: u64) -> Found
     Found::At(larger(x + 1, p + 1))
 }
 
+// The carry before the block behind block b, told by the carry o before b: that far the last run of b goes past its last slot.
+pub fn next_carry(buf: &[u8], shape: Shape, b: u64, o: u64) -> Found
+    requires { ⌜ (Whole shape (length (now buf))) × (b < blocks (shape .qbits)) × (o ≤ 2 ^ 60) ⌝ }
+    ensures { λ r. ⌜ NextCarry (slots (shape .qbits)) (viewsIn shape (now (buf .entry))) b o r ⌝ }
+{
+    let first = 64 * b;
+    let Found::At(s) = behind_run(buf, shape, first + 63, o) else {
+        return Found::Nothing;
+    };
+    let next = s - (first + 64);
+    if shape.slots() < next {
+        return Found::Nothing;
+    }
+    Found::At(next)
+}
+
 // How many blocks before b, round the end, the nearest one stands whose byte is below 255; 0 if there is none.
 fn blocks_back(buf: &[u8], shape: Shape, b: u64) -> u64
     requires { ⌜ (Whole shape (length (now buf))) × (b < blocks (shape .qbits)) ⌝ }
-    ensures { λ r. ⌜ Back (blocks (shape .qbits)) (views (shape .rbits) (le (now (buf .entry)))) b r ⌝ }
+    ensures { λ r. ⌜ NearestTold (blocks (shape .qbits)) (viewsIn shape (now (buf .entry))) b r ⌝ }
 {
     let blocks = shape.blocks();
     let mut k = 1;
@@ -97,9 +109,8 @@ fn blocks_back(buf: &[u8], shape: Shape, b: u64) -> u64
 // The true offset of block b where 255 stands there: from the nearest block before it that tells its own, a block at a time.
 fn calc_offset(buf: &[u8], shape: Shape, b: u64) -> u64
     requires { ⌜ (Whole shape (length (now buf))) × (b < blocks (shape .qbits)) ⌝ }
-    ensures { λ r. ⌜ OffsetOf (slots (shape .qbits)) (views (shape .rbits) (le (now (buf .entry)))) b r ⌝ }
+    ensures { λ r. ⌜ OffsetOf (slots (shape .qbits)) (viewsIn shape (now (buf .entry))) b r ⌝ }
 {
-    let slots = shape.slots();
     let blocks = shape.blocks();
     let back = blocks_back(buf, shape, b);
     if back == 0 {
@@ -108,14 +119,10 @@ fn calc_offset(buf: &[u8], shape: Shape, b: u64) -> u64
     let mut j = b + blocks - back;
     let mut o = slot::offset_byte(buf, shape, j % blocks);
     while j < b + blocks {
-        let first = 64 * (j % blocks);
-        let Found::At(s) = behind_run(buf, shape, first + 63, o) else {
+        let Found::At(next) = next_carry(buf, shape, j % blocks, o) else {
             return 0;
         };
-        o = s - (first + 64);
-        if slots < o {
-            return 0;
-        }
+        o = next;
         j += 1;
     }
     o
@@ -124,7 +131,7 @@ fn calc_offset(buf: &[u8], shape: Shape, b: u64) -> u64
 // The carry before block b.
 pub fn offset(buf: &[u8], shape: Shape, b: u64) -> u64
     requires { ⌜ (Whole shape (length (now buf))) × (b < blocks (shape .qbits)) ⌝ }
-    ensures { λ r. ⌜ OffsetOf (slots (shape .qbits)) (views (shape .rbits) (le (now (buf .entry)))) b r ⌝ }
+    ensures { λ r. ⌜ OffsetOf (slots (shape .qbits)) (viewsIn shape (now (buf .entry))) b r ⌝ }
 {
     let o = slot::offset_byte(buf, shape, b);
     if o < 255 {
@@ -133,34 +140,42 @@ pub fn offset(buf: &[u8], shape: Shape, b: u64) -> u64
     calc_offset(buf, shape, b)
 }
 
-// The last slot of the run of x; of an empty run, the slot before the next quotient's.
-pub fn run_end(buf: &[u8], shape: Shape, x: u64) -> u64
-    requires { ⌜ (Whole shape (length (now buf))) × (x < slots (shape .qbits)) ⌝ }
-    ensures { λ r. ⌜ RunEnd (slots (shape .qbits)) (views (shape .rbits) (le (now (buf .entry)))) x r ⌝ }
+// How far behind slot s, which is not taken round the end, the slot behind its quotient's run is.
+pub fn past_run(buf: &[u8], shape: Shape, s: u64) -> Found
+    requires { ⌜ Whole shape (length (now buf)) ⌝ }
+    ensures { λ r. ⌜ PastRun (slots (shape .qbits)) (viewsIn shape (now (buf .entry))) s r ⌝ }
 {
-    let Found::At(s) = behind_run(buf, shape, x, offset(buf, shape, x / 64)) else {
+    let y = s % shape.slots();
+    let Found::At(t) = behind_run(buf, shape, y, offset(buf, shape, y / 64)) else {
+        return Found::Nothing;
+    };
+    Found::At(t - y)
+}
+
+// The last slot of the run of x; of an empty run, the slot before the next quotient's.
+fn run_end(buf: &[u8], shape: Shape, x: u64) -> u64
+    requires { ⌜ (Whole shape (length (now buf))) × (x < slots (shape .qbits)) ⌝ }
+    ensures { λ r. ⌜ RunEnd (slots (shape .qbits)) (viewsIn shape (now (buf .entry))) x r ⌝ }
+{
+    let Found::At(gap) = past_run(buf, shape, x) else {
         return x;
     };
-    (s - 1) % shape.slots()
+    (x + gap - 1) % shape.slots()
 }
 
 // The first slot of the run of x: the one behind the run of the quotient before.
 fn start_behind(buf: &[u8], shape: Shape, x: u64) -> u64
     requires { ⌜ (Whole shape (length (now buf))) × (x < slots (shape .qbits)) ⌝ }
-    ensures { λ r. ⌜ RunStart (slots (shape .qbits)) (views (shape .rbits) (le (now (buf .entry)))) x r ⌝ }
+    ensures { λ r. ⌜ RunStart (slots (shape .qbits)) (viewsIn shape (now (buf .entry))) x r ⌝ }
 {
     let slots = shape.slots();
-    let y = (x + slots - 1) % slots;
-    let Found::At(s) = behind_run(buf, shape, y, offset(buf, shape, y / 64)) else {
-        return x;
-    };
-    s % slots
+    (run_end(buf, shape, (x + slots - 1) % slots) + 1) % slots
 }
 
 // The first slot of the run of x, if n runends stand from slot x on before it: the one behind the last of them.
 fn start_past(buf: &[u8], shape: Shape, x: u64, n: u64) -> u64
-    requires { ⌜ (Whole shape (length (now buf))) × (x < slots (shape .qbits)) × (0 < n) × Pending (slots (shape .qbits)) (views (shape .rbits) (le (now buf))) x n ⌝ }
-    ensures { λ r. ⌜ RunStart (slots (shape .qbits)) (views (shape .rbits) (le (now (buf .entry)))) x r ⌝ }
+    requires { ⌜ (Whole shape (length (now buf))) × (x < slots (shape .qbits)) × (0 < n) × Pending (slots (shape .qbits)) (viewsIn shape (now buf)) x n ⌝ }
+    ensures { λ r. ⌜ RunStart (slots (shape .qbits)) (viewsIn shape (now (buf .entry))) x r ⌝ }
 {
     let Found::At(p) = nth_runend(buf, shape, x, n - 1) else {
         return x;
@@ -172,7 +187,7 @@ fn start_past(buf: &[u8], shape: Shape, x: u64, n: u64) -> u64
 // that are not over at x. They are few, and mostly in its word, which is shifted up by one from x on, with a one below for x itself.
 pub fn run_start(buf: &[u8], shape: Shape, x: u64) -> u64
     requires { ⌜ (Whole shape (length (now buf))) × (x < slots (shape .qbits)) ⌝ }
-    ensures { λ r. ⌜ RunStart (slots (shape .qbits)) (views (shape .rbits) (le (now (buf .entry)))) x r ⌝ }
+    ensures { λ r. ⌜ RunStart (slots (shape .qbits)) (viewsIn shape (now (buf .entry))) x r ⌝ }
 {
     let b = x / 64;
     let i = x % 64;
@@ -188,26 +203,32 @@ pub fn run_start(buf: &[u8], shape: Shape, x: u64) -> u64
         return x;
     }
     let n = begun - over;
-    let Found::At(p) = bits::select::select(((word >> i) << 1) + 1, n) else {
+    let Nth::At(p) = bits::select::select(((word >> i) << 1) + 1, n) else {
         return start_past(buf, shape, x, n);
     };
     (x + p) % shape.slots()
 }
 
+// The slot `at`, or a round on from it, whichever is not before x.
+pub fn unrolled(at: u64, x: u64, slots: u64) -> u64
+    requires { ⌜ (at < slots) × (x < slots) × (slots ≤ 2 ^ 59) ⌝ }
+    ensures { λ r. ⌜ Unrolled slots at x r ⌝ }
+{
+    if at < x { at + slots } else { at }
+}
+
 // The first free slot from slot x on, not taken round the end: from each slot that is used on to the one behind its run.
 pub fn first_free(buf: &[u8], shape: Shape, x: u64) -> Found
     requires { ⌜ (Whole shape (length (now buf))) × (x < slots (shape .qbits)) ⌝ }
-    ensures { λ r. ⌜ FreeFrom (slots (shape .qbits)) (views (shape .rbits) (le (now (buf .entry)))) x r ⌝ }
+    ensures { λ r. ⌜ FreeFrom (slots (shape .qbits)) (viewsIn shape (now (buf .entry))) x r ⌝ }
 {
     let slots = shape.slots();
     let mut s = x;
     while s < x + slots {
-        let y = s % slots;
-        let Found::At(t) = behind_run(buf, shape, y, offset(buf, shape, y / 64)) else {
+        let Found::At(gap) = past_run(buf, shape, s) else {
             return Found::Nothing;
         };
-        let gap = t - y;
-        if gap + slot::is_runend(buf, shape, y) == 1 {
+        if gap + slot::is_runend(buf, shape, s % slots) == 1 {
             return Found::At(s);
         }
         s += gap;

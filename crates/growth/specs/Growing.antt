@@ -8,17 +8,11 @@ use lib.ListN.{length}
 use lib.Pow.{pow-add}
 use Rattle.theory.specs.Shape.{slots, capacity, fingerprint}
 use Rattle.theory.specs.Image.{image}
-use Rattle.theory.specs.layout.Images.{image-length}
-use Rattle.theory.specs.check.Refusals.{clear-none}
+use Rattle.theory.specs.images.ImageBytes.{image-length}
+use Rattle.theory.specs.refusals.ByNumber.{clear-none}
 use Rattle.layout.specs.declared.numbers.Numbers.{Numbers}
-use Rattle.layout.specs.Verdicts.{lowestDue}
-use Rattle.filter.specs.Asking.{fingerprintOf}
-use Rattle.filter.specs.Listing.{HoldsOf}
-use Rattle.growth.specs.Rebuilding.{growDue, grow-seven, grown-fits}
-
--- the record after growth, with this len
-abbrev pub grownTo : Numbers → ℕ → Numbers
-grownTo n len = record { len = len; qbits = n .qbits + 1; rbits = n .rbits - 1; «max_qbits» = n .«max_qbits» }
+use Rattle.layout.specs.Records.{lowestDue, fingerprintOf, HoldsOf}
+use Rattle.growth.specs.Rebuilding.{grownTo, growDue, grow-seven, grown-fits}
 
 -- where growth is not refused, max_qbits is above qbits
 pub grows-room : (n : Numbers) (size : ℕ) → growDue n size ≡ 0 → n .qbits < n .«max_qbits»
@@ -38,7 +32,7 @@ module _ (n : Numbers) (s l : List ℕ) (e : lowestDue n s ≡ 0) (h : HoldsOf n
 
   -- the bits of a fingerprint stay, and so does every fingerprint
   pub grown-width : n .qbits + 1 + (n .rbits - 1) ≡ n .qbits + n .rbits
-  grown-width = omega (arith, grown-fits n s e above .2)
+  grown-width = grown-fits n s e above .0 .sum
 
   pub grown-fingerprint : (len hash : ℕ) → fingerprintOf (grownTo n len) hash ≡ fingerprintOf n hash
   unfolding fingerprint
@@ -46,12 +40,12 @@ module _ (n : Numbers) (s l : List ℕ) (e : lowestDue n s ≡ 0) (h : HoldsOf n
 
   pub grown-clear : lowestDue (grownTo n (length l)) (image (n .qbits + 1) (n .rbits - 1) l) ≡ 0
   grown-clear =
-      let f = grown-fits n s e above in
+      let f = grown-fits n s e above .0 in
       clear-none (n .qbits + 1) (n .rbits - 1) (length l) (n .«max_qbits») _ (record {
-        widths = f .0;
+        widths = f .widths;
         size-is = image-length (n .qbits + 1) (n .rbits - 1) l;
         fewer = omega (arith, few, twice);
-        max-none = f .1;
+        max-none = f .max-none;
       })
 
   pub grown-holds : HoldsOf (grownTo n (length l)) (image (n .qbits + 1) (n .rbits - 1) l) l

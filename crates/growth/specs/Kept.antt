@@ -11,14 +11,13 @@ use Rattle.theory.specs.Answer.{gives, number, values}
 use Rattle.theory.specs.Shape.{capacity}
 use Rattle.theory.specs.Changing.{insertDue, inserted}
 use Rattle.theory.specs.Image.{image}
-use Rattle.theory.specs.list.Changed.{room-due}
+use Rattle.theory.specs.list.RuleCases.{room-due}
 use Rattle.layout.specs.declared.numbers.Numbers.{Numbers}
-use Rattle.layout.specs.Records.{Changed, changed}
-use Rattle.layout.specs.Verdicts.{lowestDue, SoundOf}
+use Rattle.layout.specs.Records.{Changed, changed, lowestDue, SoundOf, fingerprintOf, HoldsOf}
+use Rattle.layout.specs.Outcomes.{leaves-given}
 use Rattle.filter.specs.declared.contains.Lookup.{Lookup}
 use Rattle.filter.specs.declared.contains.Counting.{Counting}
-use Rattle.filter.specs.Asking.{Contains, Count, fingerprintOf}
-use Rattle.filter.specs.Listing.{HoldsOf}
+use Rattle.filter.specs.Asking.{Contains, Count}
 use Rattle.filter.specs.Answers.{saysHeld, contains-alike, count-alike}
 use Rattle.writing.specs.declared.writers.Removed.{Removed}
 use Rattle.writing.specs.declared.writers.Removed.the-variants.{Gone}
@@ -29,8 +28,8 @@ use Rattle.growth.specs.declared.rebuild.Rebuilt.the-variants.{Filter}
 use Rattle.growth.specs.declared.spare.Placed.{Placed}
 use Rattle.growth.specs.declared.spare.Placed.the-variants.{InOld, InSpare, Refused}
 use Rattle.growth.specs.Says.{PlacedIn, placedIn, placedSays, placed-tells}
-use Rattle.growth.specs.Rebuilding.{Grows, growDue}
-use Rattle.growth.specs.Growing.{grownTo, grows-room, grown-width, grown-fingerprint, grown-clear, grown-holds, grown-room}
+use Rattle.growth.specs.Rebuilding.{grownTo, Grows, growDue}
+use Rattle.growth.specs.Growing.{grows-room, grown-width, grown-fingerprint, grown-clear, grown-holds, grown-room}
 use Rattle.growth.specs.Spare.{Places, InsertSpare, InsertSpareQuick}
 
 -- ---- growth: g is the record afterwards, t the destination
@@ -41,16 +40,9 @@ module _ (n g : Numbers) (s d t : List ℕ) (y : SoundOf n s) (p : Grows n s d (
     bytes : image (n .qbits + 1) (n .rbits - 1) (y .held) ≡ t
 
   grew : Grew
-  grew = go (eq-zero-or-pos (growDue n (length d)))
-    where
-      go : (growDue n (length d) ≡ 0) ⊎ (0 < growDue n (length d)) → Grew
-      go (inl z) =
-          let r = p .sound (y .none) (y .held) (y .holds) .built z in
-          record { above = grows-room n (length d) z; is = cc (r .0); bytes = sym (r .1) }
-      go (inr z) =
-          let r = p .sound (y .none) (y .held) (y .holds) .refused z in
-          let x : _≡_ {A = ℕ} 0 1 = cc (r .0) in
-          absurd (omega arith)
+  grew =
+      let r = leaves-given _ _ (grownTo n (length (y .held))) (y .held) d g t (p .sound (y .none) (y .held) (y .holds)) in
+      record { above = grows-room n (length d) (r .0); is = sym (r .1); bytes = sym (r .2) }
 
   -- the same list is held
   grown-same : (lowestDue g t ≡ 0) × HoldsOf g t (y .held)
@@ -108,7 +100,7 @@ module _ (n : Numbers) (s d : List ℕ) (y : SoundOf n s) (hash most : ℕ) (a :
           let r = p .full b in
           named (Refused _) (r .1 .refused z .0) (same (r .0))
       go (inr b) (inl z) =
-          let r = p .full b .1 .moved z in
+          let r = p .full b .1 .done z in
           let above = grows-room n (length d) z in
           let g = grownTo n (length l) in
           let grown = image (n .qbits + 1) (n .rbits - 1) l in
@@ -149,5 +141,5 @@ spare-remove n s d y hash most m n′ t e p longer = put-back n s l (y .none) (y
     }
       where
         never : 0 < inserting n hash most .due l → (growDue n (length d) ≡ 0) ⊎ (0 < growDue n (length d)) → ⊥
-        never b (inl z) = omega (arith, ap (λ x. values (placedIn m 0 n′) x .in-spare) (right .full b .1 .moved z .0))
+        never b (inl z) = omega (arith, ap (λ x. values (placedIn m 0 n′) x .in-spare) (right .full b .1 .done z .0))
         never b (inr z) = omega (arith, ap number (right .full b .1 .refused z .0))

@@ -1,12 +1,12 @@
+-- The promises of growth, and what follows of them.
 pub mod Adding
-pub mod Beyond
-pub mod Both
 pub mod Counting
-pub mod Equal
 pub mod Growing
 pub mod Holder
 pub mod Kept
-pub mod Limits
+pub mod MergeEqual
+pub mod MergeLists
+pub mod MergeWider
 pub mod Merged
 pub mod Merging
 pub mod Pinned
@@ -15,4 +15,4 @@ pub mod Says
 pub mod Spare
 pub mod Take
 pub mod Union
-pub mod Wider
+pub mod WiderDue

@@ -1,40 +1,37 @@
 -- What follows of the promise of merge: it leaves no choice, its result is sound, and what that holds, fingerprint by fingerprint. Assumes nothing.
 use Prim.Native.Nat.{ℕ, zero, suc, _+_, _-_, _*_, _^_, _≤_, _<_, min, max}
 use mathlib.Core.Path.{_≡_, refl, sym, ap, subst, _∙_}
-use mathlib.Core.Logic.{_⊎_, inl, inr}
 use mathlib.Core.List.{List, map}
 use native.Mathlib.Omega.{arith}
 use native.Mathlib.Decide.{decLt}
-use native.Mathlib.Nat.{eq-zero-or-pos}
 use lib.ListN.{length}
 use lib.Pow.{pow-add}
-use Rattle.theory.specs.Answer.{gives, refuses, number, values}
+use Rattle.theory.specs.Answer.{gives, refuses, number}
 use Rattle.theory.specs.Shape.{Widths, slots, capacity, fingerprint}
 use Rattle.theory.specs.Holding.{Holding, Under, copies}
 use Rattle.theory.specs.Image.{image}
 use Rattle.theory.specs.Refusal.{maxDue}
 use Rattle.theory.specs.Joining.{limit, joined, taken, wanted, joinedQbits, joinedDue}
-use Rattle.theory.specs.plan.Needed.{width-low}
-use Rattle.theory.specs.check.Promises.{checked-one, not-refused}
-use Rattle.theory.specs.check.Refusals.{none-due, clear-none, else-first}
-use Rattle.theory.specs.layout.Images.{image-length}
-use Rattle.theory.specs.layout.Kept.{joined-holding, taken-holding}
-use Rattle.theory.specs.layout.Sizes.{capacity-lt}
+use Rattle.theory.specs.plan.Needed.{width-low, width-found}
+use Rattle.theory.specs.refusals.Demands.{checked-one, not-refused}
+use Rattle.theory.specs.refusals.ByNumber.{clear-none, else-first}
+use Rattle.layout.specs.Judging.{clear-of}
+use Rattle.theory.specs.images.ImageBytes.{image-length}
+use Rattle.theory.specs.list.StillHolding.{joined-holding, taken-holding}
+use Rattle.theory.specs.images.Sizes.{capacity-lt}
 use Rattle.theory.specs.list.Adding.{copies-kept, copies-single, copies-added, copies-once}
 use Rattle.layout.specs.declared.numbers.Numbers.{Numbers}
-use Rattle.layout.specs.Verdicts.{lowestDue, SoundOf}
-use Rattle.filter.specs.Asking.{CheckedOn, shapeOf}
-use Rattle.filter.specs.Listing.{HoldsOf}
-use Rattle.filter.specs.Pinned.{alike, apart}
+use Rattle.layout.specs.declared.shape.Shape.{Shape}
+use Rattle.layout.specs.Outcomes.{alike, apart, leaves-one, leaves-given}
 use Rattle.growth.specs.declared.rebuild.Rebuilt.{Rebuilt}
 use Rattle.growth.specs.declared.rebuild.Rebuilt.the-variants.{Filter}
 use Rattle.growth.specs.Says.{rebuiltSays, rebuilt-tells}
 use Rattle.growth.specs.Rebuilding.{Lands, held-under}
-use Rattle.growth.specs.Limits.{width-found, limit-widths, joined-within}
-use Rattle.growth.specs.Wider.{none-few}
-use Rattle.growth.specs.Both.{shows-self, shows-other, own-wanted}
-use Rattle.growth.specs.Pinned.{lands-one}
-use Rattle.growth.specs.Merging.{HeldBy, widthOf, qbitsFor, MergesTo, Merges}
+use Rattle.theory.specs.plan.Limits.{limit-widths, joined-within}
+use Rattle.theory.specs.list.MergeLength.{none-few, own-wanted}
+use Rattle.growth.specs.MergeLists.{shows-self, shows-other}
+use Rattle.layout.specs.Records.{shapeOf, widthOf, withShape, withLen, lowestDue, SoundOf, HoldsOf, CheckedOn}
+use Rattle.growth.specs.Merging.{qbitsFor, shapeFor, MergesTo, Merges}
 
 -- ---- no choice
 abbrev Outcome : Type 0
@@ -48,8 +45,8 @@ merges-one n m keep la lb d x y p g = go (decLt (widthOf m) (widthOf n)) (decLt 
   where
     go : Dec (widthOf m < widthOf n) → Dec (widthOf n < widthOf m) → x ≡ y
     go (yes h) z = alike rebuiltSays rebuilt-tells x y (p .narrower h) (g .narrower h)
-    go (no h) (yes z) = lands-one _ _ _ _ _ d x y (p .wider z) (g .wider z)
-    go (no h) (no z) = lands-one _ _ _ _ _ d x y (p .equal (omega arith)) (g .equal (omega arith))
+    go (no h) (yes z) = leaves-one rebuiltSays rebuilt-tells _ _ _ _ d x y (p .wider z) (g .wider z)
+    go (no h) (no z) = leaves-one rebuiltSays rebuilt-tells _ _ _ _ d x y (p .equal (omega arith)) (g .equal (omega arith))
 
 -- any two outcomes that keep the promise coincide, for all inputs
 pub merge-pinned : (n : Numbers) (s : List ℕ) (m : Numbers) (o : List ℕ) (keep : ℕ) (d : List ℕ) (a b : Rebuilt) (t u : List ℕ) → Merges n s m o keep d a t → Merges n s m o keep d b u
@@ -59,23 +56,15 @@ merge-pinned n s m o keep d a b t u p g =
     (checked-one (No d) (λ la (x : Outcome). CheckedOn m o (λ k. No d k x) (λ lb. MergesTo n m keep la lb d (x .0) (x .1))) _ _ _ _ s (λ k. alike rebuiltSays rebuilt-tells)
     (λ la _. checked-one (No d) (λ lb (x : Outcome). MergesTo n m keep la lb d (x .0) (x .1)) _ _ _ _ o (λ k. alike rebuiltSays rebuilt-tells) (λ lb _. merges-one n m keep la lb d)) (a, t) (b, u) p g)
 
--- ---- a rebuild that is not refused: none was due, and record and buffer are those of the list
-landed : (k q r mx : ℕ) (l d : List ℕ) (x : Numbers) (t : List ℕ) → Lands k q r mx l d (gives x) t
-    → (k ≡ 0) × (x ≡ record { len = length l; qbits = q; rbits = r; «max_qbits» = mx }) × (t ≡ image q r l)
-landed k q r mx l d x t p = go (eq-zero-or-pos k)
-  where
-    go : (k ≡ 0) ⊎ (0 < k) → (k ≡ 0) × (x ≡ record { len = length l; qbits = q; rbits = r; «max_qbits» = mx }) × (t ≡ image q r l)
-    go (inl e) = (e, ap (values x) (p .built e .0), p .built e .1)
-    go (inr h) = absurd (omega (arith, ap number (p .refused h .0)))
-
--- and if that is a holding of allowed widths, the filter holds it
-module _ (k q r mx : ℕ) (l d : List ℕ) (x : Numbers) (t : List ℕ) (p : Lands k q r mx l d (gives x) t) (w : Widths q r) (e : maxDue q r mx ≡ 0) (h : Holding (slots q) (2 ^ r) l) where
-  landed-holds : (lowestDue x t ≡ 0) × HoldsOf x t l
-  landed-holds =
-      let b = landed k q r mx l d x t p in
+-- ---- a rebuild that is not refused: if its list is a holding of allowed widths, the filter holds it
+module _ (k : ℕ) (n : Numbers) (h : Shape) (l d : List ℕ) (x : Numbers) (t : List ℕ) (p : Lands k (withShape n h (length l)) l d (gives x) t) where
+  landed-holds : Widths (h .qbits) (h .rbits) → maxDue (h .qbits) (h .rbits) (n .«max_qbits») ≡ 0 → Holding (slots (h .qbits)) (2 ^ h .rbits) l → (lowestDue x t ≡ 0) × HoldsOf x t l
+  landed-holds w e z =
+      let b = leaves-given k _ (withShape n h (length l)) l d x t p in
       rw (b .1, b .2) (
-        clear-none q r (length l) mx (length (image q r l)) (record { widths = w; size-is = image-length q r l; fewer = h .fewer; max-none = e }),
-        record { holding = h; many = refl; bytes = refl },
+        clear-none (h .qbits) (h .rbits) (length l) (n .«max_qbits») (length (image (h .qbits) (h .rbits) l))
+            (record { widths = w; size-is = image-length (h .qbits) (h .rbits) l; fewer = z .fewer; max-none = e }),
+        record { holding = z; many = refl; bytes = refl },
       )
 
 -- ---- a merge that is not refused
@@ -90,7 +79,7 @@ module _ (n : Numbers) (s : List ℕ) (m : Numbers) (o : List ℕ) (keep : ℕ) 
       let z = not-refused _ _ _ _ o _ _ (y .1) (λ k z. never k (z .0)) in
       (y .0, z .0, z .1)
 
-  module _ (la lb : List ℕ) (ha : HeldBy n s la) (hb : HeldBy m o lb) where
+  module _ (la lb : List ℕ) (ha : HoldsOf n s la) (hb : HoldsOf m o lb) where
     abbrev e : lowestDue n s ≡ 0
     e = both .0 .none
 
@@ -109,24 +98,24 @@ module _ (n : Numbers) (s : List ℕ) (m : Numbers) (o : List ℕ) (keep : ℕ) 
     equal-holds same =
         let q = qbitsFor n keep la lb in
         let r = widthOf n - q in
-        let none = else-first (joinedDue (n .qbits) (n .«max_qbits») (wanted keep la lb)) _ (landed _ q r (n .«max_qbits») (joined keep la lb) d x t (cases .equal same) .0) in
+        let none = else-first (joinedDue (n .qbits) (n .«max_qbits») (wanted keep la lb)) _ (leaves-given _ _ (withShape n (shapeFor n q) (length (joined keep la lb))) (joined keep la lb) d x t (cases .equal same) .0) in
         let high = joined-within (n .qbits) (n .«max_qbits») (wanted keep la lb) none in
         let low : n .qbits ≤ q = width-low (suc (limit (n .qbits) (n .«max_qbits») - n .qbits)) (n .qbits) (wanted keep la lb) in
-        let w = limit-widths n s e q low high in
+        let w = limit-widths _ _ _ _ _ e q low high in
         let sum : 2 ^ q * 2 ^ r ≡ 2 ^ widthOf n = sym (pow-add 2 q r) ∙ ap (λ z. 2 ^ z) (omega (arith, w .2)) in
         let room : wanted keep la lb ≤ capacity q = width-found (suc (limit (n .qbits) (n .«max_qbits») - n .qbits)) (n .qbits) (wanted keep la lb) (omega arith) in
         let ub : Under (2 ^ widthOf n) lb = subst (λ z. Under (2 ^ z) lb) same (held-under (shapeOf m) o lb (shows-other n s m o e f lb hb)) in
-        landed-holds _ q r (n .«max_qbits») (joined keep la lb) d x t (cases .equal same) (w .0) (w .1)
+        landed-holds _ n (shapeFor n q) (joined keep la lb) d x t (cases .equal same) (w .0) (w .1)
         (joined-holding (2 ^ q) (2 ^ r) la lb (ha .holding .ascending) (rw sum under-self) keep (rw sum ub) (omega (arith, own-wanted keep la lb .1, room, capacity-lt q (w .0 .low))))
 
     -- other wider: it holds self with what is taken of the other, cut to self's width
     wider-holds : widthOf n < widthOf m → (lowestDue x t ≡ 0) × HoldsOf x t (taken keep (n .qbits) (n .rbits) la lb)
     unfolding slots
     wider-holds more =
-        let c = none-due (n .qbits) (n .rbits) (n .len) (n .«max_qbits») (length s) e in
+        let c = clear-of n s e in
         let l = taken keep (n .qbits) (n .rbits) la lb in
-        let none = else-first _ _ (landed _ (n .qbits) (n .rbits) (n .«max_qbits») l d x t (cases .wider more) .0) in
-        landed-holds _ (n .qbits) (n .rbits) (n .«max_qbits») l d x t (cases .wider more) (c .widths) (c .max-none)
+        let none = else-first _ _ (leaves-given _ _ (withLen n (length l)) l d x t (cases .wider more) .0) in
+        landed-holds _ n (shapeOf n) l d x t (cases .wider more) (c .widths) (c .max-none)
         (taken-holding (2 ^ n .qbits) (2 ^ n .rbits) la lb (ha .holding .ascending) (ha .holding .under) keep (n .qbits) (n .rbits) (sym (pow-add 2 (n .qbits) (n .rbits)))
         (none-few (n .qbits) (c .widths .low) la l none (ha .holding .fewer)))
 
@@ -153,7 +142,7 @@ module _ (n : Numbers) (s : List ℕ) (m : Numbers) (o : List ℕ) (keep : ℕ) 
 abbrev pub Holds-as : Numbers → List ℕ → (ℕ → ℕ → Type 0) → Type 0
 Holds-as x t P = (l : List ℕ) × HoldsOf x t l × ((g : ℕ) → P g (copies g l))
 
-module _ (n : Numbers) (s : List ℕ) (m : Numbers) (o : List ℕ) (keep : ℕ) (d : List ℕ) (x : Numbers) (t : List ℕ) (p : Merges n s m o keep d (Filter x) t) (la lb : List ℕ) (ha : HeldBy n s la) (hb : HeldBy m o lb) where
+module _ (n : Numbers) (s : List ℕ) (m : Numbers) (o : List ℕ) (keep : ℕ) (d : List ℕ) (x : Numbers) (t : List ℕ) (p : Merges n s m o keep d (Filter x) t) (la lb : List ℕ) (ha : HoldsOf n s la) (hb : HoldsOf m o lb) where
   -- equal widths: with duplicates, multiplicities add for every fingerprint; without, holding is the union, once each
   pub merged-adds : widthOf m ≡ widthOf n → 0 < keep → Holds-as x t (λ g c. c ≡ copies g la + copies g lb)
   merged-adds w k = (joined keep la lb, equal-holds n s m o keep d x t p la lb ha hb w .1, λ g. with-all keep k g)

@@ -1,5 +1,5 @@
--- The promises of merge, document 01.
-use Prim.Native.Nat.{ℕ, zero, suc, _+_, _-_, _<_}
+-- The promises of merge (docs/RULES.md, "Merge").
+use Prim.Native.Nat.{ℕ, zero, suc, _-_, _<_}
 use mathlib.Core.Path.{_≡_, refl}
 use mathlib.Core.Logic.{_≢_}
 use mathlib.Core.List.{List}
@@ -7,39 +7,34 @@ use native.Mathlib.Omega.{arith}
 use lib.ListN.{length}
 use Rattle.theory.specs.Answer.{refuses}
 use Rattle.theory.specs.Refusal.{destinationDue, orElse}
-use Rattle.theory.specs.Sound.{Holds}
 use Rattle.theory.specs.Joining.{joined, taken, wanted, joinedQbits, joinedDue, takenDue}
 use Rattle.layout.specs.declared.numbers.Numbers.{Numbers}
 use Rattle.layout.specs.declared.shape.Shape.{Shape}
-use Rattle.filter.specs.Asking.{CheckedOn, shapeOf}
+use Rattle.layout.specs.Records.{shapeOf, widthOf, withShape, withLen, HoldsOf, CheckedBoth}
 use Rattle.growth.specs.declared.rebuild.Rebuilt.{Rebuilt}
 use Rattle.growth.specs.declared.rebuild.Rebuilt.the-variants.{Refused}
 use Rattle.growth.specs.Says.{rebuiltSays}
 use Rattle.growth.specs.Take.{TakesIn}
 use Rattle.growth.specs.Rebuilding.{Lands}
 
--- the list that a filter holds
-abbrev pub HeldBy : Numbers → List ℕ → List ℕ → Type 0
-HeldBy n s l = Holds (n .qbits) (n .rbits) (n .len) s l
-
-abbrev pub widthOf : Numbers → ℕ
-widthOf n = n .qbits + n .rbits
-
--- equal widths: qbits is the smallest that is at least self's and has the capacity; 7, then 12
+-- equal widths: the least qbits from self's on with capacity for what is wanted; 7, then 12
 abbrev pub qbitsFor : Numbers → ℕ → List ℕ → List ℕ → ℕ
 qbitsFor n keep la lb = joinedQbits (n .qbits) (n .«max_qbits») (wanted keep la lb)
 
+-- the shape with these qbits and as many bits in all
+abbrev pub shapeFor : Numbers → ℕ → Shape
+shapeFor n q = record { qbits = q; rbits = widthOf n - q }
+
 abbrev pub EqualTo : Numbers → ℕ → List ℕ → List ℕ → List ℕ → Rebuilt → List ℕ → Type 0
 EqualTo n keep la lb d a t =
-    let q = qbitsFor n keep la lb in
-    let r = widthOf n - q in
-    Lands (orElse (joinedDue (n .qbits) (n .«max_qbits») (wanted keep la lb)) (destinationDue q r (length d))) q r (n .«max_qbits») (joined keep la lb) d (rebuiltSays a) t
+    let h = shapeFor n (qbitsFor n keep la lb) in
+    Lands (orElse (joinedDue (n .qbits) (n .«max_qbits») (wanted keep la lb)) (destinationDue (h .qbits) (h .rbits) (length d))) (withShape n h (length (joined keep la lb))) (joined keep la lb) d (rebuiltSays a) t
 
 -- other wider: qbits stays; 7, then 12
 abbrev pub WiderTo : Numbers → ℕ → List ℕ → List ℕ → List ℕ → Rebuilt → List ℕ → Type 0
 WiderTo n keep la lb d a t =
     let l = taken keep (n .qbits) (n .rbits) la lb in
-    Lands (orElse (takenDue (n .qbits) la l) (destinationDue (n .qbits) (n .rbits) (length d))) (n .qbits) (n .rbits) (n .«max_qbits») l d (rebuiltSays a) t
+    Lands (orElse (takenDue (n .qbits) la l) (destinationDue (n .qbits) (n .rbits) (length d))) (withLen n (length l)) l d (rebuiltSays a) t
 
 -- other's width is smaller: 8; or one of the two cases
 pub record MergesTo (n m : Numbers) (keep : ℕ) (la lb d : List ℕ) (a : Rebuilt) (t : List ℕ) : Type 0 where
@@ -49,8 +44,7 @@ pub record MergesTo (n m : Numbers) (keep : ℕ) (la lb d : List ℕ) (a : Rebui
 
 -- self's numbers 1 to 6, other's 1 to 6, then the cases; what is refused leaves the destination as it was
 abbrev pub Merges : Numbers → List ℕ → Numbers → List ℕ → ℕ → List ℕ → Rebuilt → List ℕ → Type 0
-Merges n s m o keep d a t =
-    CheckedOn n s (λ k. (rebuiltSays a ≡ refuses k) × (t ≡ d)) (λ la. CheckedOn m o (λ k. (rebuiltSays a ≡ refuses k) × (t ≡ d)) (λ lb. MergesTo n m keep la lb d a t))
+Merges n s m o keep d a t = CheckedBoth n s m o (λ k. (rebuiltSays a ≡ refuses k) × (t ≡ d)) (λ la lb. MergesTo n m keep la lb d a t)
 
 -- ---- how the code comes to it
 abbrev pub mostOf : ℕ → ℕ
@@ -63,7 +57,7 @@ most-all (suc keep) h = refl
 
 -- what is promised of filters that passed 1 to 5, if both hold a list
 abbrev pub OfBoth : Numbers → List ℕ → Numbers → List ℕ → (List ℕ → List ℕ → Type 0) → Type 0
-OfBoth n s m o P = (la lb : List ℕ) → HeldBy n s la → HeldBy m o lb → P la lb
+OfBoth n s m o P = (la lb : List ℕ) → HoldsOf n s la → HoldsOf m o lb → P la lb
 
 pub record Wants (n : Numbers) (s : List ℕ) (m : Numbers) (o : List ℕ) (keep a : ℕ) : Type 0 where
   pub right : OfBoth n s m o (λ la lb. a ≡ wanted keep la lb)

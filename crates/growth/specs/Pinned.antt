@@ -8,31 +8,24 @@ use native.Mathlib.Nat.{eq-zero-or-pos}
 use lib.ListN.{length}
 use denote.Ref.{RefT}
 use Rattle.theory.specs.Answer.{Answer, refuses}
-use Rattle.theory.specs.check.Promises.{checked-one, quick-one, quick-checked}
+use Rattle.theory.specs.refusals.Demands.{checked-one, quick-one, quick-checked}
 use Rattle.layout.specs.declared.numbers.Numbers.{Numbers}
 use Rattle.writing.specs.Writing.{inserting}
-use Rattle.filter.specs.Listing.{HoldsOf}
-use Rattle.filter.specs.Pinned.{Settled, alike, apart}
+use Rattle.layout.specs.Records.{HoldsOf}
+use Rattle.layout.specs.Outcomes.{Settled, alike, apart, leaves-one}
 use Rattle.growth.specs.declared.rebuild.Rebuilt.{Rebuilt}
 use Rattle.growth.specs.declared.spare.Placed.{Placed}
-use Rattle.growth.specs.Rebuilding.{Lands, GrowsTo, Grows, growDue}
+use Rattle.growth.specs.Rebuilding.{grownTo, GrowsTo, Grows, growDue}
 use Rattle.growth.specs.Says.{rebuiltSays, rebuilt-tells, PlacedIn, placedSays, placed-tells}
 use Rattle.growth.specs.Spare.{Places, SpareLeaves, InsertSpare, InsertSpareQuick}
 use Rattle.growth.specs.Holder.{holderOf}
 
 -- ---- a rebuild: an outcome is the answer and the destination afterwards
-pub lands-one : (k q r mx : ℕ) (l d : List ℕ) (x y : Rebuilt × List ℕ) → Lands k q r mx l d (rebuiltSays (x .0)) (x .1) → Lands k q r mx l d (rebuiltSays (y .0)) (y .1) → x ≡ y
-lands-one k q r mx l d x y p w = go (eq-zero-or-pos k)
-  where
-    go : (k ≡ 0) ⊎ (0 < k) → x ≡ y
-    go (inl z) = alike rebuiltSays rebuilt-tells x y (p .built z) (w .built z)
-    go (inr z) = alike rebuiltSays rebuilt-tells x y (p .refused z) (w .refused z)
-
 pub rebuild-grown-pinned : (n : Numbers) (s d : List ℕ) (a b : Rebuilt) (t u : List ℕ) → Grows n s d a t → Grows n s d b u → (a ≡ b) × (t ≡ u)
 rebuild-grown-pinned n s d a b t u p q =
     apart (a, t) (b, u)
     (checked-one (λ k (x : Rebuilt × List ℕ). (rebuiltSays (x .0) ≡ refuses k) × (x .1 ≡ d)) (λ l (x : Rebuilt × List ℕ). GrowsTo n l d (x .0) (x .1)) _ _ _ _ s
-    (λ k. alike rebuiltSays rebuilt-tells) (λ l _ x y g h. lands-one _ _ _ _ l d x y g h) (a, t) (b, u) p q)
+    (λ k. alike rebuiltSays rebuilt-tells) (λ l _. leaves-one rebuiltSays rebuilt-tells _ _ (grownTo n (length l)) l d) (a, t) (b, u) p q)
 
 -- ---- insert with a spare: an outcome is the answer, the old buffer and the spare afterwards
 abbrev Outcome : Type 0
@@ -67,7 +60,7 @@ module _ (n : Numbers) (hash most : ℕ) (s d : List ℕ) where
       go (inr b) (inl z) =
           let g = p .full b in
           let h = q .full b in
-          both x y (g .1 .moved z .0, g .0, g .1 .moved z .1) (h .1 .moved z .0, h .0, h .1 .moved z .1)
+          both x y (g .1 .done z .0, g .0, g .1 .done z .1) (h .1 .done z .0, h .0, h .1 .done z .1)
       go (inr b) (inr z) =
           let g = p .full b in
           let h = q .full b in

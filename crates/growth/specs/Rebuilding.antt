@@ -1,54 +1,60 @@
--- The promises of growth, document 01, and what every rebuild into a lent destination comes to.
-use Prim.Native.Nat.{ℕ, _+_, _-_, _*_, _^_, _≤_, _<_}
+-- The promises of growth (docs/RULES.md, "Growth"), and what every rebuild into a lent destination comes to.
+use Prim.Native.Nat.{ℕ, _+_, _-_, _^_, _≤_, _<_}
 use mathlib.Core.Path.{_≡_, refl, sym, ap, subst, _∙_}
-use mathlib.Core.Logic.{_≢_}
 use mathlib.Core.List.{List, []}
 use native.Mathlib.Omega.{arith}
-use native.Mathlib.Decide.{decLe, ℕ-discrete}
+use native.Mathlib.Decide.{decLe}
 use lib.ListN.{length}
 use lib.Pow.{pow-add}
 use Rattle.theory.specs.tools.Choose.{choose-yes, choose-no}
 use Rattle.theory.specs.Shape.{Widths, slots, capacity, bytes}
 use Rattle.theory.specs.Holding.{Under}
-use Rattle.theory.specs.Answer.{Answer, gives, refuses}
+use Rattle.theory.specs.Answer.{Answer, refuses}
 use Rattle.theory.specs.Changing.{allowed}
 use Rattle.theory.specs.Image.{image}
 use Rattle.theory.specs.Refusal.{maxDue, destinationDue, orElse}
-use Rattle.theory.specs.Sound.{Holds}
 use Rattle.theory.specs.Joining.{added, growthDue}
 use Rattle.theory.specs.number.Bytes.{Bytes}
-use Rattle.theory.specs.layout.Images.{image-tail}
-use Rattle.theory.specs.layout.IsImage.{is-image, image-is}
-use Rattle.theory.specs.list.Changed.{allowed-high}
+use Rattle.theory.specs.images.Sizes.{next-room}
+use Rattle.theory.specs.images.ImageBytes.{image-tail}
+use Rattle.theory.specs.images.IsImage.{is-image, image-is}
+use Rattle.theory.specs.list.RuleCases.{allowed-high}
 use Rattle.theory.specs.list.UpTo.{addedUpTo, up-to-all, added-alone, cut-same}
-use Rattle.theory.specs.check.Refusals.{none-due, max-bad, max-good, else-none, else-some}
-use Rattle.theory.specs.Planning.{freshDue}
-use Rattle.theory.specs.plan.Due.{fresh-twelve, fresh-none, destination-none, destination-due}
-use Rattle.theory.specs.plan.Empty.{holds-empty}
+use Rattle.theory.specs.refusals.ByNumber.{max-good, max-fits, else-none, else-some}
+use Rattle.layout.specs.Judging.{clear-of}
+use Rattle.theory.specs.refusals.PlanRefused.{fresh-rest, none-destination}
+use Rattle.theory.specs.images.EmptyImage.{holds-empty}
 use Rattle.layout.specs.declared.numbers.Numbers.{Numbers}
 use Rattle.layout.specs.declared.shape.Shape.{Shape}
 use Rattle.layout.specs.declared.fresh.Made.{Made}
 use Rattle.layout.specs.declared.fresh.Made.the-variants as made
 use Rattle.layout.specs.Fresh.{MadeAs}
-use Rattle.layout.specs.Verdicts.{lowestDue}
-use Rattle.filter.specs.Asking.{CheckedOn, shapeOf, holds-shows}
+use Rattle.layout.specs.Records.{shapeOf, widthOf, withShape, lowestDue, HoldsOf, CheckedOn, Leaves}
+use Rattle.layout.specs.Outcomes.{leaves-refused, leaves-done}
+use Rattle.filter.specs.Asking.{holds-shows}
 use Rattle.filter.specs.Lookup.{Shows}
 use Rattle.growth.specs.declared.rebuild.Rebuilt.{Rebuilt}
 use Rattle.growth.specs.declared.rebuild.Rebuilt.the-variants.{Filter, Refused}
 use Rattle.growth.specs.Says.{rebuiltSays}
 use Rattle.growth.specs.Take.{SameTail, takenIn, TakesIn}
 
--- number k is due, and the destination stays as it was; or none is, and it is the image of l at the widths q and r
-pub record Lands (k q r mx : ℕ) (l d : List ℕ) (a : Answer Numbers) (t : List ℕ) : Type 0 where
-  pub refused : 0 < k → (a ≡ refuses k) × (t ≡ d)
-  pub built : k ≡ 0 → (a ≡ gives (record { len = length l; qbits = q; rbits = r; «max_qbits» = mx })) × (t ≡ image q r l)
+-- number k is due, and the destination stays as it was; or none is, the record n is answered, and it is the image of l at its widths
+abbrev pub Lands : ℕ → Numbers → List ℕ → List ℕ → Answer Numbers → List ℕ → Type 0
+Lands k n l d a t = Leaves k n n l d a t
 
--- growth, 7 and then 12: the same holding at qbits + 1, rbits - 1, len and max_qbits kept
+-- one more bit of quotient, one fewer of remainder, and the record then
+abbrev pub grownShape : Numbers → Shape
+grownShape n = record { qbits = n .qbits + 1; rbits = n .rbits - 1 }
+
+abbrev pub grownTo : Numbers → ℕ → Numbers
+grownTo n len = withShape n (grownShape n) len
+
+-- growth, 7 and then 12: the same holding at these widths, len and max_qbits kept
 abbrev pub growDue : Numbers → ℕ → ℕ
 growDue n size = orElse (growthDue (n .qbits) (n .«max_qbits»)) (destinationDue (n .qbits + 1) (n .rbits - 1) size)
 
 abbrev pub GrowsTo : Numbers → List ℕ → List ℕ → Rebuilt → List ℕ → Type 0
-GrowsTo n l d a t = Lands (growDue n (length d)) (n .qbits + 1) (n .rbits - 1) (n .«max_qbits») l d (rebuiltSays a) t
+GrowsTo n l d a t = Lands (growDue n (length d)) (grownTo n (length l)) l d (rebuiltSays a) t
 
 abbrev pub Grows : Numbers → List ℕ → List ℕ → Rebuilt → List ℕ → Type 0
 Grows n s d a t = CheckedOn n s (λ k. (rebuiltSays a ≡ refuses k) × (t ≡ d)) (λ l. GrowsTo n l d a t)
@@ -59,20 +65,6 @@ pub record Empties (q r : ℕ) (d : List ℕ) (k : ℕ) (t : List ℕ) : Type 0 
   pub is : k ≡ destinationDue q r (length d)
   pub made : k ≡ 0 → (t ≡ image q r []) × (length d ≡ bytes q r)
   pub kept : 0 < k → t ≡ d
-
-fresh-rest : (q r mx size : ℕ) → Widths q r → maxDue q r mx ≡ 0 → freshDue q r mx size ≡ destinationDue q r size
-fresh-rest q r mx size w e = go (ℕ-discrete size (bytes q r))
-  where
-    go : Dec (size ≡ bytes q r) → freshDue q r mx size ≡ destinationDue q r size
-    go (yes z) = fresh-none q r mx size w e z ∙ sym (destination-none q r size z)
-    go (no z) = fresh-twelve q r mx size w e z ∙ sym (destination-due q r size z)
-
-pub none-destination : (q r size : ℕ) → destinationDue q r size ≡ 0 → size ≡ bytes q r
-none-destination q r size e = go (ℕ-discrete size (bytes q r))
-  where
-    go : Dec (size ≡ bytes q r) → size ≡ bytes q r
-    go (yes z) = z
-    go (no z) = absurd (omega (arith, destination-due q r size z))
 
 -- what a fresh filter's answer says of it
 abbrev pub emptied : Made → ℕ
@@ -90,16 +82,6 @@ made-empties q r mx w e d (made.Refused k) t h = record {
   made = λ z. absurd (omega arith);
   kept = λ _. h .2;
 }
-
--- a max_qbits that was let pass
-pub max-fits : (q r mx : ℕ) → maxDue q r mx ≡ 0 → mx ≢ 0 → (q ≤ mx) × (mx ≤ 59) × (mx ≤ q + r - 1)
-max-fits q r mx e n = go (decLe q mx) (decLe mx 59) (decLe mx (q + r - 1))
-  where
-    go : Dec (q ≤ mx) → Dec (mx ≤ 59) → Dec (mx ≤ q + r - 1) → (q ≤ mx) × (mx ≤ 59) × (mx ≤ q + r - 1)
-    go (yes a) (yes b) (yes c) = (a, b, c)
-    go (no a) b c = absurd (omega (arith, max-bad q r mx n (λ z. a (z .0))))
-    go (yes a) (no b) c = absurd (omega (arith, max-bad q r mx n (λ z. b (z .1))))
-    go (yes a) (yes b) (no c) = absurd (omega (arith, max-bad q r mx n (λ z. c (z .2))))
 
 -- a buffer that shows l, written inside one that was an image, is the image of l
 pub lands-image : (h : Shape) → 6 ≤ h .qbits → (x l t : List ℕ) → Bytes t → length t ≡ bytes (h .qbits) (h .rbits) → SameTail h (image (h .qbits) (h .rbits) x) t → Shows h t l
@@ -122,31 +104,17 @@ pub held-under : (h : Shape) (s l : List ℕ) → Shows h s l → Under (2 ^ (h 
 unfolding slots
 held-under h s l w = rw (pow-add 2 (h .qbits) (h .rbits)) (w .holding .under)
 
-module _ (n : Numbers) (s : List ℕ) (e : lowestDue n s ≡ 0) (l : List ℕ) (w : Holds (n .qbits) (n .rbits) (n .len) s l) where
+module _ (n : Numbers) (s : List ℕ) (e : lowestDue n s ≡ 0) (l : List ℕ) (w : HoldsOf n s l) where
   -- a holding taken into an empty destination of the same sum of widths: itself, at other widths
   pub taken-whole : (h : Shape) → Widths (h .qbits) (h .rbits) → h .qbits + h .rbits ≡ n .qbits + n .rbits → n .len ≤ capacity (h .qbits) → (most : ℕ) → n .len ≤ most → (a : ℕ) (t : List ℕ)
       → TakesIn (shapeOf n) s (n .len) h (image (h .qbits) (h .rbits) []) 0 most a t → Shows h t l × (a ≡ length l)
   taken-whole h wd sum few most reach a t g =
-      let c = none-due (n .qbits) (n .rbits) (n .len) (n .«max_qbits») (length s) e in
+      let c = clear-of n s e in
       let sh = holds-shows n s l (c .widths) w in
       let same : takenIn h most [] l ≡ l =
       taken-all h most [] l (rw sum (held-under (shapeOf n) s l sh)) (omega (arith, w .many)) ∙ added-alone l (w .holding .ascending) in
       let r = g .right [] l sh (sym (w .many)) (shows-empty h (wd .low)) refl (λ z. omega (arith, ap length same, w .many)) in
       (subst (Shows h t) same (r .0), r .1 ∙ ap length same)
-
--- growth of a filter that passed 1 to 5
-abbrev pub GrowWorked : Numbers → List ℕ → List ℕ → Rebuilt → List ℕ → Type 0
-GrowWorked n s d a t = (l : List ℕ) → Holds (n .qbits) (n .rbits) (n .len) s l → GrowsTo n l d a t
-
-module _ (k q r mx : ℕ) (l d : List ℕ) where
-  pub lands-refused : (j : ℕ) → k ≡ j → 0 < j → Lands k q r mx l d (refuses j) d
-  lands-refused j e h = record { refused = λ _. (ap refuses (sym e), refl); built = λ z. absurd (omega arith) }
-
-  pub lands-built : k ≡ 0 → (a : ℕ) → a ≡ length l → (t : List ℕ) → t ≡ image q r l → Lands k q r mx l d (gives (record { len = a; qbits = q; rbits = r; «max_qbits» = mx })) t
-  lands-built e a i t g = record {
-    refused = λ z. absurd (omega arith);
-    built = λ _. (ap (λ z. gives (record { len = z; qbits = q; rbits = r; «max_qbits» = mx })) i, g);
-  }
 
 pub grow-seven : (n : Numbers) (size : ℕ) → n .«max_qbits» ≤ n .qbits → growDue n size ≡ 7
 unfolding growthDue
@@ -158,38 +126,50 @@ pub grow-twelve : (n : Numbers) (size : ℕ) → n .qbits < n .«max_qbits» →
 unfolding growthDue
 grow-twelve n size h = else-none (growthDue (n .qbits) (n .«max_qbits»)) _ (choose-no (decLe (n .«max_qbits») (n .qbits)) 7 0 (λ z. omega arith))
 
--- the next width has room for all
-pub next-room : (q len : ℕ) → len < slots q → len ≤ capacity (q + 1)
-unfolding capacity slots
-next-room q len h =
-    let e : 2 ^ (q + 1) ≡ 2 ^ q * 2 = pow-add 2 q 1 in
-    omega arith
+-- ---- a rebuild at other widths
+-- the widths h are allowed, keep the bits of a fingerprint and have room for all that is held
+pub record CanHold (n : Numbers) (h : Shape) : Type 0 where
+  pub widths : Widths (h .qbits) (h .rbits)
+  pub max-none : maxDue (h .qbits) (h .rbits) (n .«max_qbits») ≡ 0
+  pub sum : h .qbits + h .rbits ≡ widthOf n
+  pub room : n .len ≤ capacity (h .qbits)
+
+-- the same holding at the widths h; or 12
+abbrev pub RebuildsInto : Numbers → List ℕ → Shape → List ℕ → Rebuilt → List ℕ → Type 0
+RebuildsInto n s h d a t = (l : List ℕ) → HoldsOf n s l → Lands (destinationDue (h .qbits) (h .rbits) (length d)) (withShape n h (length l)) l d (rebuiltSays a) t
+
+module _ (n : Numbers) (s : List ℕ) (e : lowestDue n s ≡ 0) (h : Shape) where
+  pub into-refused : (d : List ℕ) (k : ℕ) (t : List ℕ) → Empties (h .qbits) (h .rbits) d k t → 0 < k → RebuildsInto n s h d (Refused k) t
+  into-refused d k t m some = λ l w.
+      subst (λ (z : List ℕ). Lands (destinationDue (h .qbits) (h .rbits) (length d)) (withShape n h (length l)) l d (refuses k) z) (sym (m .kept some))
+      (leaves-refused _ (withShape n h (length l)) (withShape n h (length l)) l d k (sym (m .is)) some)
+
+  pub into-built : CanHold n h → (d t₀ : List ℕ) → Empties (h .qbits) (h .rbits) d 0 t₀ → (most a : ℕ) → n .len ≤ most → (t : List ℕ) → Bytes t → length t ≡ length d
+      → TakesIn (shapeOf n) s (n .len) h t₀ 0 most a t → RebuildsInto n s h d (Filter (withShape n h a)) t
+  into-built f d t₀ m most a reach t b size g = λ l w.
+      let from : TakesIn (shapeOf n) s (n .len) h (image (h .qbits) (h .rbits) []) 0 most a t = subst (λ (z : List ℕ). TakesIn (shapeOf n) s (n .len) h z 0 most a t) (m .made refl .0) g in
+      let r = taken-whole n s e l w h (f .widths) (f .sum) (f .room) most reach a t from in
+      leaves-done _ (withShape n h (length l)) (withShape n h (length l)) l d (sym (m .is)) (withShape n h a) (ap (withShape n h) (r .1)) t
+      (lands-image h (f .widths .low) [] l t b (size ∙ m .made refl .1) (from .tail) (r .0))
+
+-- ---- growth of a filter that passed 1 to 5
+abbrev pub GrowWorked : Numbers → List ℕ → List ℕ → Rebuilt → List ℕ → Type 0
+GrowWorked n s d a t = (l : List ℕ) → HoldsOf n s l → GrowsTo n l d a t
 
 module _ (n : Numbers) (s : List ℕ) (e : lowestDue n s ≡ 0) (more : n .qbits < n .«max_qbits») where
-  abbrev grown : Shape
-  grown = record { qbits = n .qbits + 1; rbits = n .rbits - 1 }
-
-  pub grown-fits : (Widths (n .qbits + 1) (n .rbits - 1)) × (maxDue (n .qbits + 1) (n .rbits - 1) (n .«max_qbits») ≡ 0) × (2 ≤ n .rbits)
+  pub grown-fits : CanHold n (grownShape n) × (2 ≤ n .rbits)
   grown-fits =
-      let c = none-due (n .qbits) (n .rbits) (n .len) (n .«max_qbits») (length s) e in
+      let c = clear-of n s e in
       let m = max-fits (n .qbits) (n .rbits) (n .«max_qbits») (c .max-none) (λ z. omega arith) in
       let w = c .widths in (
-        record { low = omega (arith, w .low); high = omega (arith, m .1); some = omega (arith, m .2); sum = omega (arith, w .sum, m .2) },
-        max-good (n .qbits + 1) (n .rbits - 1) (n .«max_qbits») (omega arith) (m .1) (omega (arith, m .2)),
+        record {
+          widths = record { low = omega (arith, w .low); high = omega (arith, m .1); some = omega (arith, m .2); sum = omega (arith, w .sum, m .2) };
+          max-none = max-good (n .qbits + 1) (n .rbits - 1) (n .«max_qbits») (omega arith) (m .1) (omega (arith, m .2));
+          sum = omega (arith, m .2);
+          room = next-room (n .qbits) (n .len) (c .fewer);
+        },
         omega (arith, m .2),
       )
 
-  pub grow-built : (d t₀ : List ℕ) → Empties (n .qbits + 1) (n .rbits - 1) d 0 t₀ → (most a : ℕ) → n .len ≤ most → (t : List ℕ) → Bytes t → length t ≡ length d
-      → TakesIn (shapeOf n) s (n .len) grown t₀ 0 most a t → GrowWorked n s d (Filter (record { len = a; qbits = n .qbits + 1; rbits = n .rbits - 1; «max_qbits» = n .«max_qbits» })) t
-  grow-built d t₀ m most a reach t b size g = λ l w.
-      let c = none-due (n .qbits) (n .rbits) (n .len) (n .«max_qbits») (length s) e in
-      let f = grown-fits in
-      let from : TakesIn (shapeOf n) s (n .len) grown (image (n .qbits + 1) (n .rbits - 1) []) 0 most a t = subst (λ (z : List ℕ). TakesIn (shapeOf n) s (n .len) grown z 0 most a t) (m .made refl .0) g in
-      let r = taken-whole n s e l w grown (f .0) (omega (arith, f .2)) (next-room (n .qbits) (n .len) (c .fewer)) most reach a t from in
-      lands-built (growDue n (length d)) (n .qbits + 1) (n .rbits - 1) (n .«max_qbits») l d (grow-twelve n (length d) more ∙ sym (m .is)) a (r .1) t
-      (lands-image grown (f .0 .low) [] l t b (size ∙ m .made refl .1) (from .tail) (r .0))
-
-  pub grow-refused : (d : List ℕ) (k : ℕ) (t : List ℕ) → Empties (n .qbits + 1) (n .rbits - 1) d k t → 0 < k → GrowWorked n s d (Refused k) t
-  grow-refused d k t m h = λ l w.
-      subst (GrowsTo n l d (Refused k)) (sym (m .kept h))
-      (lands-refused (growDue n (length d)) (n .qbits + 1) (n .rbits - 1) (n .«max_qbits») l d k (grow-twelve n (length d) more ∙ sym (m .is)) h)
+  pub grow-rebuilt : (d : List ℕ) (a : Rebuilt) (t : List ℕ) → RebuildsInto n s (grownShape n) d a t → GrowWorked n s d a t
+  grow-rebuilt d a t g l w = rw (grow-twelve n (length d) more) (g l w)

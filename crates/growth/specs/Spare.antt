@@ -1,41 +1,38 @@
--- The promise of insert with a spare, document 01.
-use Prim.Native.Nat.{ℕ, zero, suc, _+_, _-_, _≤_, _<_}
+-- The promises of insert with a spare (docs/RULES.md, "Insert").
+use Prim.Native.Nat.{ℕ, _+_, _-_, _<_}
 use mathlib.Core.Path.{_≡_, refl, sym, ap, subst, _∙_}
 use mathlib.Core.Logic.{_⊎_, inl, inr, _≢_}
 use mathlib.Core.List.{List}
 use native.Mathlib.Omega.{arith}
-use native.Mathlib.Decide.{decLt, ℕ-discrete}
+use native.Mathlib.Decide.{ℕ-discrete}
 use native.Mathlib.Nat.{eq-zero-or-pos}
 use lib.ListN.{length}
-use Rattle.theory.specs.tools.Choose.{choose, choose-by}
 use Rattle.theory.specs.Answer.{Answer, gives, refuses, number}
-use Rattle.theory.specs.Shape.{slots, capacity, bytes}
+use Rattle.theory.specs.Shape.{capacity}
 use Rattle.theory.specs.Changing.{Rule, insertAnswer, inserted}
 use Rattle.theory.specs.Image.{image}
-use Rattle.theory.specs.Refusal.{orElse, widthsDue, sizeDue, lenDue, maxDue, fullDue, dueOf, due}
-use Rattle.theory.specs.list.Changed.{due-some, room-due}
-use Rattle.theory.specs.check.Search.{sound-dec}
-use Rattle.theory.specs.check.Promises.{not-refused}
+use Rattle.theory.specs.list.RuleCases.{due-some, room-due}
+use Rattle.theory.specs.refusals.ByNumber.{due-most}
+use Rattle.theory.specs.refusals.SoundDecided.{sound-dec}
+use Rattle.theory.specs.refusals.Demands.{not-refused}
 use Rattle.layout.specs.declared.numbers.Numbers.{Numbers}
-use Rattle.layout.specs.Records.{withLen, Changed}
-use Rattle.layout.specs.Verdicts.{lowestDue, SoundOf}
+use Rattle.layout.specs.Records.{withLen, Changed, lowestDue, SoundOf, HoldsOf, fingerprintOf, CheckedOn, QuickOn, Leaves}
 use Rattle.writing.specs.declared.writers.Inserted.{Inserted}
 use Rattle.writing.specs.declared.writers.Inserted.the-variants as inserted
-use Rattle.filter.specs.Asking.{CheckedOn, QuickOn, fingerprintOf}
-use Rattle.filter.specs.Listing.{HoldsOf}
 use Rattle.writing.specs.Says.{insertedSays, inserted-tells}
 use Rattle.writing.specs.Writing.{Turns, inserting, Insert, InsertQuick, Inside, InsertLeaves}
 use Rattle.growth.specs.declared.rebuild.Rebuilt.the-variants as rebuilt
 use Rattle.growth.specs.declared.spare.Placed.{Placed}
 use Rattle.growth.specs.declared.spare.Placed.the-variants.{InOld, InSpare, Refused}
 use Rattle.growth.specs.Says.{PlacedIn, placedIn, placedSays}
-use Rattle.growth.specs.Rebuilding.{Grows, GrowsTo, growDue}
-use Rattle.growth.specs.Growing.{grownTo, grows-room, grown-fingerprint, grown-clear, grown-holds, grown-room}
+use Rattle.growth.specs.Rebuilding.{grownTo, Grows, GrowsTo, growDue}
+use Rattle.growth.specs.Growing.{grows-room, grown-fingerprint, grown-clear, grown-holds, grown-room}
 
 -- growth into the spare d, 7 and then 12, and the rule of insert there: e is the spare afterwards
-pub record Moves (n : Numbers) (rule : Rule) (l d : List ℕ) (a : Answer PlacedIn) (e : List ℕ) : Type 0 where
-  pub refused : 0 < growDue n (length d) → (a ≡ refuses (growDue n (length d))) × (e ≡ d)
-  pub moved : growDue n (length d) ≡ 0 → (a ≡ gives (placedIn (rule .answer l) 1 (grownTo n (length (rule .held l))))) × (e ≡ image (n .qbits + 1) (n .rbits - 1) (rule .held l))
+abbrev pub Moves : Numbers → Rule → List ℕ → List ℕ → Answer PlacedIn → List ℕ → Type 0
+Moves n rule l d a e =
+    let after = grownTo n (length (rule .held l)) in
+    Leaves (growDue n (length d)) (placedIn (rule .answer l) 1 after) after (rule .held l) d a e
 
 -- the rule of insert on the old buffer s, which is t afterwards; where 7 is due, and only then, the spare counts, and the old one is unchanged
 pub record Places (n : Numbers) (rule : Rule) (l s d : List ℕ) (a : Answer PlacedIn) (t e : List ℕ) : Type 0 where
@@ -86,9 +83,9 @@ pub record MovesWorked (n : Numbers) (hash most : ℕ) (s d : List ℕ) (a : Pla
   pub refused : (k : ℕ) → placedSays a ≡ refuses k → e ≡ d
 
 -- what the answer of the plain insert leads to
-abbrev pub Settles : Numbers → ℕ → ℕ → List ℕ → List ℕ → Inserted → Placed → List ℕ → Type 0
-Settles n hash most s d (inserted.Counted m after) a e = (a ≡ InOld m after) × (e ≡ d)
-Settles n hash most s d (inserted.Refused k) a e = (k ≢ 7 → (a ≡ Refused k) × (e ≡ d)) × (k ≡ 7 → MovesWorked n hash most s d a e)
+abbrev pub MovesIfFull : Numbers → ℕ → ℕ → List ℕ → List ℕ → Inserted → Placed → List ℕ → Type 0
+MovesIfFull n hash most s d (inserted.Counted m after) a e = (a ≡ InOld m after) × (e ≡ d)
+MovesIfFull n hash most s d (inserted.Refused k) a e = (k ≢ 7 → (a ≡ Refused k) × (e ≡ d)) × (k ≡ 7 → MovesWorked n hash most s d a e)
 
 module _ (n : Numbers) (hash most : ℕ) (s d : List ℕ) where
   -- growth that was refused has left the spare as it was
@@ -96,7 +93,7 @@ module _ (n : Numbers) (hash most : ℕ) (s d : List ℕ) where
   kept k t g = go (eq-zero-or-pos (lowestDue n s)) (sound-dec (n .qbits) (n .rbits) (n .len) (n .«max_qbits») s)
     where
       by : (l : List ℕ) → GrowsTo n l d (rebuilt.Refused k) t → (growDue n (length d) ≡ 0) ⊎ (0 < growDue n (length d)) → t ≡ d
-      by l p (inl z) = let x = p .built z .0 in let y : _≡_ {A = ℕ} 0 1 = cc in absurd (omega arith)
+      by l p (inl z) = let x = p .done z .0 in let y : _≡_ {A = ℕ} 0 1 = cc in absurd (omega arith)
       by l p (inr z) = p .refused z .1
 
       go : (lowestDue n s ≡ 0) ⊎ (0 < lowestDue n s) → Dec (SoundOf n s) → t ≡ d
@@ -111,7 +108,7 @@ module _ (n : Numbers) (hash most : ℕ) (s d : List ℕ) where
         let p = g .sound e l h in
         record {
           refused = λ z. (ap refuses (ap number (p .refused z .0)), p .refused z .1);
-          moved = λ z. let x = p .built z .0 in let y : _≡_ {A = ℕ} 0 1 = cc in absurd (omega arith);
+          done = λ z. let x = p .done z .0 in let y : _≡_ {A = ℕ} 0 1 = cc in absurd (omega arith);
         };
     whole = λ _. kept k t g;
     refused = λ _ _. kept k t g;
@@ -125,7 +122,7 @@ module _ (n : Numbers) (hash most : ℕ) (s d : List ℕ) where
     in-spare : (l : List ℕ) → lowestDue n s ≡ 0 → HoldsOf n s l → growDue n (length d) ≡ 0
         → (placedSays a ≡ gives (placedIn (insertAnswer most f l) 1 (grownTo n (length (inserted most f l))))) × (t ≡ image (n .qbits + 1) (n .rbits - 1) (inserted most f l))
     in-spare l e h z =
-        let b = w .sound e l h .built z in
+        let b = w .sound e l h .done z in
         let x = b .0 in
         let y : g ≡ grownTo n (length l) = cc in
         let above = grows-room n (length d) z in
@@ -147,49 +144,29 @@ module _ (n : Numbers) (hash most : ℕ) (s d : List ℕ) where
 
     pub moves-grown : MovesWorked n hash most s d a t
     moves-grown = record {
-      right = λ l e h c. record { refused = λ z. absurd (never l (w .sound e l h) z); moved = λ z. in-spare l e h z };
+      right = λ l e h c. record { refused = λ z. absurd (never l (w .sound e l h) z); done = λ z. in-spare l e h z };
       whole = λ y. absurd (y (grew .0));
       refused = λ k x. absurd (placed k x (eq-zero-or-pos (growDue n (length d))));
     }
 
 -- each answer of the plain insert
 module _ (n : Numbers) (hash most : ℕ) (s d : List ℕ) (z : Inserted) (a : Placed) (e : List ℕ) where
-  leads : {z′ : Inserted} → z ≡ z′ → Settles n hash most s d z′ a e → Settles n hash most s d z a e
-  leads x w = subst (λ (y : Inserted). Settles n hash most s d y a e) (sym x) w
+  leads : {z′ : Inserted} → z ≡ z′ → MovesIfFull n hash most s d z′ a e → MovesIfFull n hash most s d z a e
+  leads x w = subst (λ (y : Inserted). MovesIfFull n hash most s d y a e) (sym x) w
 
-  pub settles-counted : (m : ℕ) (after : Numbers) → z ≡ inserted.Counted m after → (a ≡ InOld m after) × (e ≡ d) → Settles n hash most s d z a e
-  settles-counted m after x p = leads x p
+  pub if-full-counted : (m : ℕ) (after : Numbers) → z ≡ inserted.Counted m after → (a ≡ InOld m after) × (e ≡ d) → MovesIfFull n hash most s d z a e
+  if-full-counted m after x p = leads x p
 
-  pub settles-refused : (k : ℕ) → z ≡ inserted.Refused k → k ≢ 7 → (a ≡ Refused k) × (e ≡ d) → Settles n hash most s d z a e
-  settles-refused k x b p = leads x ((λ _. p), (λ c. absurd (b c)))
+  pub if-full-refused : (k : ℕ) → z ≡ inserted.Refused k → k ≢ 7 → (a ≡ Refused k) × (e ≡ d) → MovesIfFull n hash most s d z a e
+  if-full-refused k x b p = leads x ((λ _. p), (λ c. absurd (b c)))
 
-  pub settles-moved : (k : ℕ) → z ≡ inserted.Refused k → k ≡ 7 → MovesWorked n hash most s d a e → Settles n hash most s d z a e
-  settles-moved k x b p = leads x ((λ c. absurd (c b)), (λ _. p))
-
--- no number of 1 to 5 is 7
-else-most : (a b : ℕ) → a ≤ 5 → b ≤ 5 → orElse a b ≤ 5
-unfolding orElse
-else-most zero b x y = y
-else-most (suc a) b x y = x
-
-one-most : {A : Type 0} (d : Dec A) (a b : ℕ) → a ≤ 5 → b ≤ 5 → choose d a b ≤ 5
-one-most d a b x y = choose-by (λ z. z ≤ 5) d (λ _. x) (λ _. y)
-
-due-most : (q r len mx size : ℕ) → due q r len mx size ≤ 5
-unfolding due dueOf widthsDue sizeDue lenDue maxDue fullDue
-due-most q r len mx size =
-    else-most (widthsDue q r) _
-    (one-most (decLt q 6) 1 _ (omega arith) (one-most (decLt 59 q) 1 _ (omega arith) (one-most (decLt r 1) 1 _ (omega arith) (one-most (decLt 64 (q + r)) 1 0 (omega arith) (omega arith)))))
-    (else-most (sizeDue q r size) _ (one-most (ℕ-discrete size (bytes q r)) 0 2 (omega arith) (omega arith))
-    (else-most (lenDue q len) _ (one-most (decLt (slots q) len) 3 0 (omega arith) (omega arith))
-    (else-most (maxDue q r mx) _
-    (one-most (ℕ-discrete mx 0) 0 _ (omega arith) (one-most (decLt mx q) 4 _ (omega arith) (one-most (decLt 59 mx) 4 _ (omega arith) (one-most (decLt (q + r - 1) mx) 4 0 (omega arith) (omega arith)))))
-    (one-most (ℕ-discrete len (slots q)) 5 0 (omega arith) (omega arith)))))
+  pub if-full-moved : (k : ℕ) → z ≡ inserted.Refused k → k ≡ 7 → MovesWorked n hash most s d a e → MovesIfFull n hash most s d z a e
+  if-full-moved k x b p = leads x ((λ c. absurd (c b)), (λ _. p))
 
 -- the plain insert answered z and left t; what that led to is a, with the spare e
-module _ (n : Numbers) (hash most : ℕ) (s d : List ℕ) (z : Inserted) (t : List ℕ) (a : Placed) (e : List ℕ) (w : Settles n hash most t d z a e) where
-  led : (z′ : Inserted) → insertedSays z ≡ insertedSays z′ → Settles n hash most t d z′ a e
-  led z′ x = subst (λ (y : Inserted). Settles n hash most t d y a e) (inserted-tells z z′ x) w
+module _ (n : Numbers) (hash most : ℕ) (s d : List ℕ) (z : Inserted) (t : List ℕ) (a : Placed) (e : List ℕ) (w : MovesIfFull n hash most t d z a e) where
+  led : (z′ : Inserted) → insertedSays z ≡ insertedSays z′ → MovesIfFull n hash most t d z′ a e
+  led z′ x = subst (λ (y : Inserted). MovesIfFull n hash most t d y a e) (inserted-tells z z′ x) w
 
   refused : (k : ℕ) → k ≢ 7 → (insertedSays z ≡ refuses k) × (t ≡ s) → (placedSays a ≡ refuses k) × (t ≡ s) × (e ≡ d)
   refused k x p =
@@ -212,13 +189,13 @@ module _ (n : Numbers) (hash most : ℕ) (s d : List ℕ) (z : Inserted) (t : Li
         (p .1, subst (λ (k : List ℕ). MovesWorked n hash most k d a e) (p .1) worked .right l c h x);
   }
 
-  pub settled : Insert n hash most s z t → InsertSpare n hash most s d a t e
-  settled i = record { early = early (i .early); damaged = λ c h. refused 6 (λ x. omega arith) (i .damaged c h); sound = λ c l h. places l c h (i .sound c l h) }
+  pub spared-checked : Insert n hash most s z t → InsertSpare n hash most s d a t e
+  spared-checked i = record { early = early (i .early); damaged = λ c h. refused 6 (λ x. omega arith) (i .damaged c h); sound = λ c l h. places l c h (i .sound c l h) }
 
-  pub settled-quick : InsertQuick n hash most s z t → InsertSpareQuick n hash most s d a t e
-  settled-quick i = record { early = early (i .early); sound = λ c l h. places l c h (i .sound c l h); other = leaves z w (i .other) }
+  pub spared-quick : InsertQuick n hash most s z t → InsertSpareQuick n hash most s d a t e
+  spared-quick i = record { early = early (i .early); sound = λ c l h. places l c h (i .sound c l h); other = leaves z w (i .other) }
     where
-      leaves : (z : Inserted) → Settles n hash most t d z a e → InsertLeaves s z t → SpareLeaves n s d a t e
+      leaves : (z : Inserted) → MovesIfFull n hash most t d z a e → InsertLeaves s z t → SpareLeaves n s d a t e
       leaves (inserted.Counted m after) w i = record {
         inside = i .0;
         whole = λ _. w .1;

@@ -11,9 +11,9 @@ use Rattle.theory.specs.Shape.{capacity, blocks, fingerprint}
 use Rattle.theory.specs.Holding.{copies}
 use Rattle.theory.specs.Changing.{allowed, upTo, insertDue, inserted}
 use Rattle.theory.specs.number.Bytes.{le}
-use Rattle.theory.specs.layout.Block.{tailAt}
+use Rattle.theory.specs.images.Block.{tailAt}
 use Rattle.theory.specs.list.More.{more-length}
-use Rattle.theory.specs.list.Changed.{up-to-by, up-to-more, enough-due, room-due}
+use Rattle.theory.specs.list.RuleCases.{up-to-by, up-to-more, enough-due, room-due}
 use Rattle.theory.specs.list.UpTo.{addedUpTo, up-to-grows}
 use Rattle.layout.specs.declared.shape.Shape.{Shape}
 use Rattle.writing.specs.declared.insert.Insertion.{Insertion}
@@ -23,7 +23,7 @@ use Rattle.filter.specs.declared.listing.Step.{Step}
 use Rattle.filter.specs.declared.listing.Step.the-variants as step
 use Rattle.filter.specs.declared.listing.Stepped.{Stepped}
 use Rattle.filter.specs.Lookup.{Shows}
-use Rattle.writing.specs.Insert.{Tally, insertionSays, InsertsCore}
+use Rattle.writing.specs.Insert.{CoreAnswer, insertionSays, InsertsCore}
 use Rattle.filter.specs.Places.{stepped, placeOf, step-some, First, Steps}
 
 -- the last eight bytes stay
@@ -100,7 +100,7 @@ module _ (h : Shape) (len f most : ℕ) (l s t : List ℕ) (z : Insertion) (c : 
   unfolding inserted
   put-shows =
       let r = c .right l w (sym e) .done due in
-      (r .1, ap (λ (a : Answer Tally). values (record { answer = 0; len = len }) a .len) (r .0))
+      (r .1, ap (λ (a : Answer CoreAnswer). values (record { answer = 0; len = len }) a .len) (r .0))
 
 -- ---- all of them: after k steps what is held, with the rest taken in, is what it comes to
 pub record Taking (h : Shape) (b : List ℕ) (h′ : Shape) (most : ℕ) (whole : List ℕ) (left held : ℕ) (p : Place) (d : List ℕ) : Type 0 where

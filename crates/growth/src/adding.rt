@@ -8,7 +8,7 @@ use filter::listing::Step;
 use filter::listing::first_place;
 use filter::listing::step_core;
 use filter::lookup::Seen;
-use filter::lookup::look;
+use filter::lookup::find_hash;
 use filter::lookup::quotient;
 use filter::lookup::remainder;
 use layout::shape::Shape;
@@ -18,7 +18,7 @@ fn absent(buf: &[u8], shape: Shape, hash: u64) -> u64
     requires { ⌜ Whole shape (length (now buf)) ⌝ }
     ensures { λ r. ⌜ Lacks shape (now (buf .entry)) hash r ⌝ }
 {
-    let seen = look(buf, shape, hash);
+    let seen = find_hash(buf, shape, hash);
     match seen {
         Seen::At(place) => 0,
         Seen::Absent(compared) => 1,

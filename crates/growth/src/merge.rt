@@ -1,10 +1,10 @@
 // Two filters merged in a lent destination.
 ghost use mathlib.Core.Path.{_≡_};
-ghost use Prim.Native.Nat.{ℕ, suc, _+_, _-_, _<_, _≤_};
+ghost use Prim.Native.Nat.{suc, _+_, _-_, _≤_};
 ghost use lib.ListN.{length};
-ghost use Rattle.theory.specs.Joining.{limit, joinedQbits};
+ghost use Rattle.theory.specs.Joining.{limit};
 ghost use Rattle.theory.specs.Planning.{widthFrom};
-ghost use Rattle.layout.specs.Verdicts.{lowestDue};
+ghost use Rattle.layout.specs.Records.{lowestDue};
 ghost use Rattle.layout.specs.Whole.{Whole};
 ghost use Rattle.growth.specs.Merging.{mostOf, Wants, Joins, MergesEqual, MergesWider, MergesSound, Merges};
 use crate::rebuild::Rebuilt;
@@ -12,10 +12,11 @@ use crate::rebuild::empty_out;
 use crate::take::take_in;
 use crate::union::union_len;
 use crate::wider::wider_due;
-use filter::runs::larger;
+use bits::compare::larger;
 use layout::check::Verdict;
-use layout::check::check;
+use layout::check::check_both;
 use layout::numbers::Numbers;
+use layout::planning::capacity_of;
 use layout::shape::Shape;
 
 // The max_count that each insert of a merge gets.
@@ -33,15 +34,7 @@ fn wanted_len(buf: &[u8], n: Numbers, other: &[u8], m: Numbers, keep: u64) -> u6
     if keep != 0 {
         return n.len + m.len;
     }
-    let shape = Shape {
-        qbits: n.qbits,
-        rbits: n.rbits,
-    };
-    let other_shape = Shape {
-        qbits: m.qbits,
-        rbits: m.rbits,
-    };
-    let either = union_len(buf, shape, n.len, other, other_shape, m.len);
+    let either = union_len(buf, n.shape(), n.len, other, m.shape(), m.len);
     larger(either, larger(n.len, m.len))
 }
 
@@ -52,8 +45,7 @@ fn joined_qbits(first: u8, last: u8, wanted: u64) -> u8
 {
     let mut qbits = first;
     while qbits <= last {
-        let shape = Shape { qbits, rbits: 1 };
-        if wanted <= shape.capacity() {
+        if wanted <= capacity_of(qbits) {
             return qbits;
         }
         qbits += 1;
@@ -85,20 +77,12 @@ fn join(
     requires { ⌜ (lowestDue n (now buf) ≡ 0) × (lowestDue m (now other) ≡ 0) × (Whole shape (length (now dest))) ⌝ }
     ensures { λ r. ⌜ Joins n (now (buf .entry)) m (now (other .entry)) keep shape (now (dest .entry)) r (now (dest .exit)) ⌝ }
 {
-    let own_shape = Shape {
-        qbits: n.qbits,
-        rbits: n.rbits,
-    };
-    let other_shape = Shape {
-        qbits: m.qbits,
-        rbits: m.rbits,
-    };
     let most = max_count_of(keep);
-    let own = take_in(buf, own_shape, n.len, dest, shape, 0, most);
-    take_in(other, other_shape, m.len, dest, shape, own, most)
+    let own = take_in(buf, n.shape(), n.len, dest, shape, 0, most);
+    take_in(other, m.shape(), m.len, dest, shape, own, most)
 }
 
-// Equal fingerprint widths: with duplicates, multiplicities add; without, each fingerprint is held once. Number 7, then 12.
+// As many bits of fingerprint on both sides: copies are added up, or, without duplicates, one of each is kept. Number 7, then 12.
 fn merge_sorted(
     buf: &[u8],
     n: Numbers,
@@ -125,12 +109,7 @@ fn merge_sorted(
         return Rebuilt::Refused(due);
     }
     let len = join(buf, n, other, m, keep, dest, shape);
-    Rebuilt::Filter(Numbers {
-        len,
-        qbits: shape.qbits,
-        rbits: shape.rbits,
-        max_qbits: n.max_qbits,
-    })
+    Rebuilt::Filter(n.with_shape(shape, len))
 }
 
 // The destination gets what the buffer has.
@@ -157,14 +136,8 @@ fn merge_wider(
     requires { ⌜ (lowestDue n (now buf) ≡ 0) × (lowestDue m (now other) ≡ 0) ⌝ }
     ensures { λ r. ⌜ MergesWider n (now (buf .entry)) m (now (other .entry)) keep (now (dest .entry)) r (now (dest .exit)) ⌝ }
 {
-    let shape = Shape {
-        qbits: n.qbits,
-        rbits: n.rbits,
-    };
-    let other_shape = Shape {
-        qbits: m.qbits,
-        rbits: m.rbits,
-    };
+    let shape = n.shape();
+    let other_shape = m.shape();
     let due = wider_due(buf, shape, n.len, other, other_shape, m.len, keep);
     if 0 < due {
         return Rebuilt::Refused(due);
@@ -175,12 +148,7 @@ fn merge_wider(
     copy(buf, dest);
     let most = max_count_of(keep);
     let len = take_in(other, other_shape, m.len, dest, shape, n.len, most);
-    Rebuilt::Filter(Numbers {
-        len,
-        qbits: n.qbits,
-        rbits: n.rbits,
-        max_qbits: n.max_qbits,
-    })
+    Rebuilt::Filter(n.with_len(len))
 }
 
 // Number 8 if other's width is smaller; else the case that the widths tell.
@@ -217,12 +185,8 @@ pub fn merge(
 ) -> Rebuilt
     ensures { λ r. ⌜ Merges n (now (buf .entry)) m (now (other .entry)) «keep_duplicates» (now (dest .entry)) r (now (dest .exit)) ⌝ }
 {
-    let verdict = check(buf, n);
+    let verdict = check_both(buf, n, other, m);
     if let Verdict::Refused(k) = verdict {
-        return Rebuilt::Refused(k);
-    }
-    let other_verdict = check(other, m);
-    if let Verdict::Refused(k) = other_verdict {
         return Rebuilt::Refused(k);
     }
     merge_sound(buf, n, other, m, keep_duplicates, dest)

@@ -1,10 +1,9 @@
 // A filter rebuilt in a lent destination: growth.
 ghost use mathlib.Core.Path.{_≡_};
-ghost use lib.ListN.{length};
 ghost use Rattle.theory.specs.Shape.{Widths};
 ghost use Rattle.theory.specs.Refusal.{maxDue};
-ghost use Rattle.layout.specs.Verdicts.{lowestDue};
-ghost use Rattle.growth.specs.Rebuilding.{Empties, Grows, GrowWorked};
+ghost use Rattle.layout.specs.Records.{lowestDue};
+ghost use Rattle.growth.specs.Rebuilding.{Empties, CanHold, RebuildsInto, Grows, GrowWorked};
 use crate::take::take_in;
 use layout::check::Verdict;
 use layout::check::check;
@@ -31,7 +30,20 @@ pub fn empty_out(dest: &mut [u8], shape: Shape, max_qbits: u8) -> u8
     }
 }
 
-// Growth of a filter that passed 1 to 6.
+// The list of a filter that passed 1 to 5, at other widths that have room for it, in the destination; or number 12. What it leaves is fixed where the buffer is sound.
+pub fn rebuild_into(buf: &[u8], n: Numbers, shape: Shape, dest: &mut [u8]) -> Rebuilt
+    requires { ⌜ (lowestDue n (now buf) ≡ 0) × (CanHold n shape) ⌝ }
+    ensures { λ r. ⌜ RebuildsInto n (now (buf .entry)) shape (now (dest .entry)) r (now (dest .exit)) ⌝ }
+{
+    let due = empty_out(dest, shape, n.max_qbits);
+    if 0 < due {
+        return Rebuilt::Refused(due);
+    }
+    let len = take_in(buf, n.shape(), n.len, dest, shape, 0, u64::MAX);
+    Rebuilt::Filter(n.with_shape(shape, len))
+}
+
+// Growth of a filter that passed 1 to 5: number 7, or the rebuild.
 fn grow(buf: &[u8], n: Numbers, dest: &mut [u8]) -> Rebuilt
     requires { ⌜ lowestDue n (now buf) ≡ 0 ⌝ }
     ensures { λ r. ⌜ GrowWorked n (now (buf .entry)) (now (dest .entry)) r (now (dest .exit)) ⌝ }
@@ -39,25 +51,11 @@ fn grow(buf: &[u8], n: Numbers, dest: &mut [u8]) -> Rebuilt
     if n.max_qbits <= n.qbits {
         return Rebuilt::Refused(7);
     }
-    let shape = Shape {
-        qbits: n.qbits,
-        rbits: n.rbits,
-    };
     let grown = Shape {
         qbits: n.qbits + 1,
         rbits: n.rbits - 1,
     };
-    let due = empty_out(dest, grown, n.max_qbits);
-    if 0 < due {
-        return Rebuilt::Refused(due);
-    }
-    let len = take_in(buf, shape, n.len, dest, grown, 0, u64::MAX);
-    Rebuilt::Filter(Numbers {
-        len,
-        qbits: grown.qbits,
-        rbits: grown.rbits,
-        max_qbits: n.max_qbits,
-    })
+    rebuild_into(buf, n, grown, dest)
 }
 
 // The same holding with one more bit of quotient, in the destination; or number 1 to 6, 7, then 12.

@@ -1,6 +1,5 @@
 // Insert with a spare: where a plain insert would refuse number 7, the filter grows into a second lent buffer.
-ghost use mathlib.Core.Path.{_≡_};
-ghost use Rattle.growth.specs.Spare.{InsertSpare, InsertSpareQuick, MovesWorked, PutsInSpare, Settles};
+ghost use Rattle.growth.specs.Spare.{InsertSpare, InsertSpareQuick, MovesWorked, PutsInSpare, MovesIfFull};
 use crate::rebuild::Rebuilt;
 use crate::rebuild::rebuild_grown;
 use layout::numbers::Numbers;
@@ -38,7 +37,7 @@ fn move_to_spare(buf: &[u8], n: Numbers, hash: u64, max_count: u64, spare: &mut 
 }
 
 // What a plain insert's answer leads to: only number 7 makes it look at the spare.
-fn settle(
+fn move_if_full(
     done: Inserted,
     buf: &[u8],
     n: Numbers,
@@ -46,7 +45,7 @@ fn settle(
     max_count: u64,
     spare: &mut [u8],
 ) -> Placed
-    ensures { λ r. ⌜ Settles n hash «max_count» (now (buf .entry)) (now (spare .entry)) done r (now (spare .exit)) ⌝ }
+    ensures { λ r. ⌜ MovesIfFull n hash «max_count» (now (buf .entry)) (now (spare .entry)) done r (now (spare .exit)) ⌝ }
 {
     match done {
         Inserted::Counted(m, after) => Placed::InOld(m, after),
@@ -70,7 +69,7 @@ pub fn insert_with_spare(
     ensures { λ r. ⌜ InsertSpare n hash «max_count» (now (buf .entry)) (now (spare .entry)) r (now (buf .exit)) (now (spare .exit)) ⌝ }
 {
     let done = insert_fingerprint_counting(buf, n, hash, max_count);
-    settle(done, buf, n, hash, max_count, spare)
+    move_if_full(done, buf, n, hash, max_count, spare)
 }
 
 // The same after asking 1 to 5 alone; growth, where it is due, is checked.
@@ -84,5 +83,5 @@ pub fn insert_with_spare_quick(
     ensures { λ r. ⌜ InsertSpareQuick n hash «max_count» (now (buf .entry)) (now (spare .entry)) r (now (buf .exit)) (now (spare .exit)) ⌝ }
 {
     let done = insert_fingerprint_counting_quick(buf, n, hash, max_count);
-    settle(done, buf, n, hash, max_count, spare)
+    move_if_full(done, buf, n, hash, max_count, spare)
 }

@@ -1,6 +1,5 @@
 // A list's fingerprints taken into another buffer, one insert for each.
-ghost use mathlib.Core.Path.{_≡_};
-ghost use Prim.Native.Nat.{ℕ, _+_, _^_, _<_, _≤_};
+ghost use Prim.Native.Nat.{_+_, _^_, _<_};
 ghost use lib.ListN.{length};
 ghost use Rattle.layout.specs.Whole.{Whole};
 ghost use Rattle.growth.specs.Take.{Puts, PutsStep, TakesIn};

@@ -2,7 +2,7 @@
 ghost use lib.ListN.{length};
 ghost use Rattle.theory.specs.Shape.{Widths};
 ghost use Rattle.layout.specs.Whole.{Whole};
-ghost use Rattle.growth.specs.Wider.{Excess, WiderDue};
+ghost use Rattle.growth.specs.WiderDue.{Excess, WiderDue};
 use crate::adding::count_added;
 use layout::shape::Shape;
 

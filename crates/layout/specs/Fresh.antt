@@ -1,14 +1,13 @@
--- What a fresh filter answers and leaves in the buffer: document 01's number and values for each case, and that what is made is sound.
+-- What a fresh filter answers and leaves in the buffer: the number and the values for each case, and that what is made is sound (docs/RULES.md, "Planning").
 use Prim.Native.Nat.{ℕ, _<_}
 use mathlib.Core.Path.{_≡_}
 use mathlib.Core.List.{List, []}
 use lib.ListN.{length}
 use Rattle.theory.specs.Image.{image}
-use Rattle.theory.specs.Sound.{Sound, Holds}
 use Rattle.theory.specs.Planning.{freshDue}
-use Rattle.theory.specs.plan.Due.{none-fresh}
-use Rattle.theory.specs.plan.Empty.{sound-empty, holds-empty}
-use Rattle.layout.specs.Records.{NumbersOf}
+use Rattle.theory.specs.refusals.PlanRefused.{none-fresh}
+use Rattle.theory.specs.images.EmptyImage.{sound-empty, holds-empty}
+use Rattle.layout.specs.Records.{NumbersOf, SoundOf, HoldsOf}
 use Rattle.layout.specs.declared.numbers.Numbers.{Numbers}
 use Rattle.layout.specs.declared.fresh.Made.{Made}
 use Rattle.layout.specs.declared.fresh.Made.the-variants.{Fresh, Refused}
@@ -20,7 +19,7 @@ MadeAs s q r mx (Refused k) t = (freshDue q r mx (length s) ≡ k) × (0 < k) ×
 
 -- a fresh filter is sound and holds nothing
 pub made-sound : (s : List ℕ) (q r mx : ℕ) (n : Numbers) (t : List ℕ) → MadeAs s q r mx (Fresh n) t
-    → Sound (n .qbits) (n .rbits) (n .len) (n .«max_qbits») t × Holds (n .qbits) (n .rbits) (n .len) t []
+    → SoundOf n t × HoldsOf n t []
 made-sound s q r mx n t h =
     let e = none-fresh q r mx (length s) (h .0) in
     let i = h .1 in

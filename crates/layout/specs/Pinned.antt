@@ -27,7 +27,7 @@ use Rattle.layout.specs.Records.{numbers-unique}
 use Rattle.layout.specs.Shapes.{ShapedAs}
 use Rattle.layout.specs.Plans.{NeededAs, SpecsOf, SpecifiedAs, PlannedAs}
 use Rattle.layout.specs.Fresh.{MadeAs}
-use Rattle.layout.specs.Verdicts.{Judged}
+use Rattle.layout.specs.Verdicts.{Judged, JudgedBoth}
 
 -- ---- shape and numbers
 pub new-pinned : (q r : ℕ) (a b : Shaped) → ShapedAs q r a → ShapedAs q r b → a ≡ b
@@ -93,3 +93,14 @@ check-pinned n s (verdict.Refused j) (verdict.Refused k) (inl p) (inl p′) = ap
 check-pinned n s (verdict.Refused j) (verdict.Refused k) (inl p) (inr p′) = absurd (omega arith)
 check-pinned n s (verdict.Refused j) (verdict.Refused k) (inr p) (inl p′) = absurd (omega arith)
 check-pinned n s (verdict.Refused j) (verdict.Refused k) (inr p) (inr p′) = ap verdict.Refused (p .2 ∙ sym (p′ .2))
+
+pub check-both-pinned : (n : Numbers) (s : List ℕ) (m : Numbers) (o : List ℕ) (v w : Verdict) → JudgedBoth n s m o v → JudgedBoth n s m o w → v ≡ w
+check-both-pinned n s m o verdict.Sound verdict.Sound a b = refl
+check-both-pinned n s m o verdict.Sound (verdict.Refused k) a (inl p) = check-pinned n s verdict.Sound (verdict.Refused k) (a .0) p
+check-both-pinned n s m o verdict.Sound (verdict.Refused k) a (inr p) = check-pinned m o verdict.Sound (verdict.Refused k) (a .1) (p .1)
+check-both-pinned n s m o (verdict.Refused j) verdict.Sound (inl p) b = check-pinned n s (verdict.Refused j) verdict.Sound p (b .0)
+check-both-pinned n s m o (verdict.Refused j) verdict.Sound (inr p) b = check-pinned m o (verdict.Refused j) verdict.Sound (p .1) (b .1)
+check-both-pinned n s m o (verdict.Refused j) (verdict.Refused k) (inl p) (inl p′) = check-pinned n s (verdict.Refused j) (verdict.Refused k) p p′
+check-both-pinned n s m o (verdict.Refused j) (verdict.Refused k) (inl p) (inr p′) = absurd (let z : _≡_ {A = ℕ} 0 1 = cc (check-pinned n s (verdict.Refused j) verdict.Sound p (p′ .0)) in omega arith)
+check-both-pinned n s m o (verdict.Refused j) (verdict.Refused k) (inr p) (inl p′) = absurd (let z : _≡_ {A = ℕ} 0 1 = cc (check-pinned n s verdict.Sound (verdict.Refused k) (p .0) p′) in omega arith)
+check-both-pinned n s m o (verdict.Refused j) (verdict.Refused k) (inr p) (inr p′) = check-pinned m o (verdict.Refused j) (verdict.Refused k) (p .1) (p′ .1)

@@ -1,10 +1,10 @@
--- What planning answers: document 01's number and values for each case.
+-- What planning answers: the number and the values for each case (docs/RULES.md, "Planning").
 use Prim.Native.Nat.{ℕ, _+_, _-_, _<_}
 use mathlib.Core.Path.{_≡_}
 use lib.Ieee.{Float}
 use Rattle.theory.specs.Shape.{capacity, bytes}
 use Rattle.theory.specs.Planning.{neededQbits, rbitsFor, halfPow, perItem, plannedRbits, plannedMax, capacityDue, specsDue, planDue, freshDue}
-use Rattle.theory.specs.plan.Due.{plan-fresh}
+use Rattle.theory.specs.refusals.PlanRefused.{plan-fresh}
 use Rattle.layout.specs.declared.numbers.Numbers.{Numbers}
 use Rattle.layout.specs.Records.{NumbersOf}
 use Rattle.layout.specs.declared.planning.Needed.{Needed}
@@ -15,7 +15,7 @@ use Rattle.layout.specs.declared.planning.Specified.the-variants as spec
 use Rattle.layout.specs.declared.planning.Planned.{Planned}
 use Rattle.layout.specs.declared.planning.Planned.the-variants as planned
 
--- the width of the smallest power of two, 64 or more, whose capacity suffices, if number 10 is not due; else number 10
+-- the least qbits, from 6 on, with capacity for c, if number 10 is not due; else number 10
 abbrev pub NeededAs : ℕ → Needed → Type 0
 NeededAs c (needed.Qbits q) = (capacityDue c ≡ 0) × (q ≡ neededQbits c)
 NeededAs c (needed.Refused k) = (capacityDue c ≡ k) × (0 < k)

@@ -2,7 +2,6 @@
 use Prim.Native.Nat.{ℕ, _<_}
 use mathlib.Core.Path.{_≡_}
 use Rattle.theory.specs.Refusal.{widthsDue}
-use Rattle.layout.specs.declared.shape.Shape.{Shape}
 use Rattle.layout.specs.declared.shape.Shaped.{Shaped}
 use Rattle.layout.specs.declared.shape.Shaped.the-variants.{Of, Refused}
 

@@ -1,4 +1,4 @@
-// The check: does the record pass numbers 1 to 5, and is the buffer the image of a holding of len fingerprints? It walks the blocks twice with a
+// The check: does the record pass numbers 1 to 5, and are its bytes those of some holding, of len fingerprints? It walks the blocks twice with a
 // cursor by value and keeps nothing else.
 ghost use mathlib.Core.Path.{_≡_};
 ghost use Prim.Native.Nat.{_*_};
@@ -7,7 +7,7 @@ ghost use Rattle.theory.specs.Shape.{blocks, Widths};
 ghost use Rattle.theory.specs.check.Buffer.{stepsOn};
 ghost use Rattle.layout.specs.Whole.{Whole};
 ghost use Rattle.layout.specs.Walk.{cur, Fits};
-ghost use Rattle.layout.specs.Verdicts.{Answered, Judged};
+ghost use Rattle.layout.specs.Verdicts.{Answered, Judged, JudgedBoth};
 use crate::check::step::Cursor;
 use crate::numbers::Numbers;
 use crate::numbers::number_due;
@@ -16,6 +16,7 @@ use crate::shape::Shape;
 mod flag;
 pub mod step;
 
+// Sound; or refused with a number.
 pub enum Verdict {
     Sound,
     Refused(u8),
@@ -66,10 +67,18 @@ pub fn check(buf: &[u8], n: Numbers) -> Verdict
     if 0 < due {
         return Verdict::Refused(due);
     }
-    let shape = Shape {
-        qbits: n.qbits,
-        rbits: n.rbits,
-    };
+    let shape = n.shape();
     let c = go_on(buf, shape, 2 * shape.blocks(), Cursor::begin());
     answer(shape, n.len, c)
+}
+
+// Both filters sound, or the lowest number that is due of the first, or of the second.
+pub fn check_both(buf: &[u8], n: Numbers, other: &[u8], m: Numbers) -> Verdict
+    ensures { λ r. ⌜ JudgedBoth n (now (buf .entry)) m (now (other .entry)) r ⌝ }
+{
+    let verdict = check(buf, n);
+    if let Verdict::Refused(k) = verdict {
+        return Verdict::Refused(k);
+    }
+    check(other, m)
 }

@@ -7,6 +7,7 @@ use crate::numbers::max_due;
 use crate::shape::Shape;
 use crate::shape::Shaped;
 
+// The record of a fresh filter; or refused.
 pub enum Made {
     Fresh(Numbers),
     Refused(u8),
@@ -37,10 +38,5 @@ pub fn fresh(buf: &mut [u8], qbits: u8, rbits: u8, max_qbits: u8) -> Made
         return Made::Refused(12);
     }
     clear(buf);
-    Made::Fresh(Numbers {
-        len: 0,
-        qbits,
-        rbits,
-        max_qbits,
-    })
+    Made::Fresh(Numbers::empty(qbits, rbits, max_qbits))
 }

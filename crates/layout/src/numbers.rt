@@ -1,8 +1,8 @@
 // The record of numbers that a filter comes with, and which of numbers 1 to 5 is due.
 ghost use mathlib.Core.Path.{_≡_};
-ghost use Prim.Native.Nat.{ℕ, _+_, _<_, _≤_};
 ghost use Rattle.theory.specs.Refusal.{maxDue, dueOf, due};
 ghost use Rattle.theory.specs.Shape.{Widths};
+ghost use Rattle.layout.specs.Records.{emptyRecord, shapeOf, withShape, withLen};
 use crate::shape::Shape;
 use crate::shape::Shaped;
 
@@ -13,6 +13,49 @@ pub struct Numbers {
     pub qbits: u8,
     pub rbits: u8,
     pub max_qbits: u8,
+}
+
+impl Numbers {
+    // The record of an empty filter.
+    pub fn empty(qbits: u8, rbits: u8, max_qbits: u8) -> Numbers
+        ensures { λ r. ⌜ r ≡ emptyRecord qbits rbits «max_qbits» ⌝ }
+    {
+        Numbers {
+            len: 0,
+            qbits,
+            rbits,
+            max_qbits,
+        }
+    }
+
+    // The shape of the filter.
+    pub fn shape(self) -> Shape
+        ensures { λ r. ⌜ r ≡ shapeOf self ⌝ }
+    {
+        Shape {
+            qbits: self.qbits,
+            rbits: self.rbits,
+        }
+    }
+
+    // The record at other widths, with this len.
+    pub fn with_shape(self, shape: Shape, len: u64) -> Numbers
+        ensures { λ r. ⌜ r ≡ withShape self shape len ⌝ }
+    {
+        Numbers {
+            len,
+            qbits: shape.qbits,
+            rbits: shape.rbits,
+            max_qbits: self.max_qbits,
+        }
+    }
+
+    // The record with another len.
+    pub fn with_len(self, len: u64) -> Numbers
+        ensures { λ r. ⌜ r ≡ withLen self len ⌝ }
+    {
+        self.with_shape(self.shape(), len)
+    }
 }
 
 // Number 4, or 0.

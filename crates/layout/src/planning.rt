@@ -1,6 +1,6 @@
 // Planning: the widths that serve a capacity and a rate, before there is a buffer.
 ghost use mathlib.Core.Path.{_≡_};
-ghost use Prim.Native.Nat.{_+_, _-_, _*_, _<_, _≤_};
+ghost use Prim.Native.Nat.{_<_, _≤_};
 ghost use Rattle.theory.specs.Shape.{capacity, Widths};
 ghost use Rattle.theory.specs.Planning.{neededQbits, rbitsFor, halfPow, perItem};
 ghost use Rattle.layout.specs.Plans.{NeededAs, SpecsOf, SpecifiedAs, PlannedAs};
@@ -10,6 +10,7 @@ use crate::shape::Shape;
 // The capacity of 2 ^ 59 slots.
 pub const MAX_CAPACITY: u64 = 547637714688252314;
 
+// The qbits that a capacity needs; or refused.
 pub enum Needed {
     Qbits(u8),
     Refused(u8),
@@ -25,18 +26,20 @@ pub struct FilterSpecs {
     pub fingerprint_bits: u8,
 }
 
+// What a filter comes to; or refused.
 pub enum Specified {
     Specs(FilterSpecs),
     Refused(u8),
 }
 
+// The record that a plan comes to; or refused.
 pub enum Planned {
     Widths(Numbers),
     Refused(u8),
 }
 
-// A capacity hangs on qbits alone: any rbits that is allowed serves.
-fn capacity_of(qbits: u8) -> u64
+// The capacity, which hangs on qbits alone: any rbits that is allowed serves.
+pub fn capacity_of(qbits: u8) -> u64
     requires { ⌜ (6 ≤ qbits) × (qbits ≤ 59) ⌝ }
     ensures { λ r. ⌜ r ≡ capacity qbits ⌝ }
 {
@@ -69,7 +72,7 @@ pub fn needed_qbits(capacity: u64) -> Needed
     Needed::Qbits(width_for(capacity))
 }
 
-// The least k from 1 to 64 with 2 ^ -k at or below the rate. What is not a number is below nothing.
+// The first k from 1 to 64 for which 2 ^ -k is not above the rate. What is not a number is below nothing.
 pub fn rbits_for(rate: f64) -> u8
     ensures { λ r. ⌜ (r ≡ rbitsFor rate) × (1 ≤ r) × (r ≤ 64) ⌝ }
 {
@@ -108,6 +111,7 @@ fn bits_per_item(rbits: u8) -> f64
     (rbits as f64) + 2.125
 }
 
+// What a filter of these widths comes to.
 fn specs_of(qbits: u8, rbits: u8) -> FilterSpecs
     requires { ⌜ Widths qbits rbits ⌝ }
     ensures { λ r. ⌜ SpecsOf qbits rbits r ⌝ }
@@ -163,10 +167,5 @@ pub fn plan_resizeable(initial: u64, most: u64, rate: f64) -> Planned
     if 64 < qbits + rbits {
         return Planned::Refused(9);
     }
-    Planned::Widths(Numbers {
-        len: 0,
-        qbits,
-        rbits,
-        max_qbits: max_for(qbits, widest),
-    })
+    Planned::Widths(Numbers::empty(qbits, rbits, max_for(qbits, widest)))
 }

@@ -1,22 +1,26 @@
 // A shape: qbits and rbits, with their limits.
 ghost use mathlib.Core.Path.{_≡_};
-ghost use Prim.Native.Nat.{ℕ, _+_, _*_, _^_, _<_, _≤_};
+ghost use Prim.Native.Nat.{_+_, _*_, _^_, _<_, _≤_};
 ghost use Rattle.theory.specs.Shape.{slots, capacity, blocks, bytes, Widths};
 ghost use Rattle.layout.specs.Shapes.{ShapedAs};
 
+// The widths of a filter.
 pub struct Shape {
     pub qbits: u8,
     pub rbits: u8,
 }
 
+// A shape; or refused.
 pub enum Shaped {
     Of(Shape),
     Refused(u8),
 }
 
 impl Shape {
+    // The least qbits: one block of slots.
     pub const MIN_QBITS: u8 = 6;
 
+    // The largest qbits.
     pub const MAX_QBITS: u8 = 59;
 
     // The shape of these widths, or number 1.
@@ -38,6 +42,7 @@ impl Shape {
         Shaped::Of(Shape { qbits, rbits })
     }
 
+    // How many slots there are.
     pub fn slots(self) -> u64
         requires { ⌜ Widths (self .qbits) (self .rbits) ⌝ }
         ensures { λ r. ⌜ (r ≡ slots (self .qbits)) × (64 ≤ r) × (r ≤ 2 ^ 59) ⌝ }
@@ -54,6 +59,7 @@ impl Shape {
         slots - slots / 20
     }
 
+    // How many blocks of 64 slots there are.
     pub fn blocks(self) -> u64
         requires { ⌜ Widths (self .qbits) (self .rbits) ⌝ }
         ensures { λ r. ⌜ (r ≡ blocks (self .qbits)) × (1 ≤ r) × (r ≤ 2 ^ 53) ⌝ }
@@ -69,6 +75,7 @@ impl Shape {
         17 + 8 * (self.rbits as usize)
     }
 
+    // The bytes of a buffer.
     pub fn buffer_len(self) -> usize
         requires { ⌜ Widths (self .qbits) (self .rbits) ⌝ }
         ensures { λ r. ⌜ (r ≡ bytes (self .qbits) (self .rbits)) × (r < 2 ^ 63) ⌝ }

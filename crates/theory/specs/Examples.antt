@@ -1,4 +1,4 @@
--- Document 01's starred examples, and inputs that its check program refuses, shown from the definitions: one table, and one claim over it.
+-- The examples that docs/RULES.md, "Examples at the edges", marks as proved, and inputs that the check program refuses, shown from the definitions: one table, and one claim over it.
 -- A new kind of example is a constructor of `Example` with a clause of `holds`; a new example is a row of `table`, with its proof in `examples`.
 use Prim.Native.Nat.{ℕ, zero, suc, _+_, _-_, _*_, _^_}
 use Prim.Native.String.{String}
@@ -28,7 +28,7 @@ use Rattle.theory.specs.program.Files.{fileOf, list-file}
 pub data Byte : Type 0 where
   byte : ℕ → ℕ → Byte
 
--- what is asked, and last what document 01 says
+-- what is asked, and last what the rules say
 pub data Example : Type 0 where
   -- the capacity of 2 ^ qbits slots
   capacityOf : ℕ → ℕ → Example
@@ -80,7 +80,7 @@ buffer = byte 1 0x06 ∷ byte 9 0x0c ∷ byte 18 0x03 ∷ byte 19 0x05 ∷ byte 
 file : List ℕ
 file = 0x51 ∷ 0x46 ∷ 0x03 ∷ replicate 7 0x00 ++ (0x06 ∷ 0x08 ∷ 0x00 ∷ filled 89 buffer)
 
--- document 01's starred lines in their order, and then an input for each number that is due before the buffer is looked at
+-- the examples of the rules in their order, and then an input for each number that is due before the buffer is looked at
 pub table : List Example
 table =
     capacityOf 6 61

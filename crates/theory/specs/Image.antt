@@ -1,7 +1,7 @@
--- Document 01's image of a holding, from the widths and the ascending list of fingerprints to the bytes of the buffer.
+-- The image of a holding (docs/RULES.md, "The image of a holding" and "The bytes of a block"), from the widths and the ascending list of fingerprints to the bytes of the buffer.
 -- m is the number of slots and R = 2 ^ rbits. Quotients and slots go round after m.
-use Prim.Native.Nat.{ℕ, zero, suc, _+_, _-_, _*_, _/_, _%_, _^_, _≤_, _<_, min, max}
-use mathlib.Core.List.{List, [], _∷_, _++_}
+use Prim.Native.Nat.{ℕ, zero, suc, _+_, _-_, _*_, _%_, _^_, min}
+use mathlib.Core.List.{List, [], _++_}
 use native.Mathlib.Decide.{decLt}
 use lib.ListN.{length, getD}
 use Rattle.theory.specs.tools.Choose.{choose}
@@ -68,7 +68,7 @@ viewsOf m R l = record {
   offset = λ b. min (carry m (many m R l) (64 * b)) 255;
 }
 
--- block b: one offset byte, 8 bytes occupieds, 8 bytes runends, then 64 remainders packed without gaps, least digits first
+-- block b: its offset byte, the two words of eight bytes, occupieds and runends, and the remainders of its 64 slots end to end, least digits first
 unfoldable pub blockOf : ℕ → Views → ℕ → List ℕ
 blockOf r v b =
     toBytes 1 (v .offset b)

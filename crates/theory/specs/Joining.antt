@@ -1,4 +1,4 @@
--- Growth and merge of document 01, on the lists held. `keep` is 0 for a merge without duplicates.
+-- Growth and merge (docs/RULES.md, "Growth" and "Merge"), on the lists held. `keep` is 0 for a merge without duplicates.
 use Prim.Native.Nat.{ℕ, zero, suc, _+_, _-_, max}
 use mathlib.Core.List.{List, [], _∷_, map}
 use native.Mathlib.Decide.{decLe, decLt, ℕ-discrete}
@@ -19,12 +19,12 @@ unfoldable pub addedOnce : List ℕ → List ℕ → List ℕ
 addedOnce l [] = l
 addedOnce l (f ∷ b) = addedOnce (upTo 1 f l) b
 
--- equal fingerprint widths: with duplicates, multiplicities add; without, each fingerprint held by either is held once
+-- as many bits on both sides: copies are added up, or, where keep is 0, there is one of each that one of the two holds
 unfoldable pub joined : ℕ → List ℕ → List ℕ → List ℕ
 joined zero a b = addedOnce (addedOnce [] a) b
 joined (suc keep) a b = added a b
 
--- other wider: its fingerprints are cut to self's width q + r; with duplicates all are added, without only absent ones, once each
+-- other has more bits: its fingerprints lose those above q + r and are added, all of them, or, where keep is 0, one of each that self lacks
 unfoldable pub taken : ℕ → ℕ → ℕ → List ℕ → List ℕ → List ℕ
 taken zero q r a b = addedOnce a (map (fingerprint q r) b)
 taken (suc keep) q r a b = added a (map (fingerprint q r) b)
@@ -33,7 +33,7 @@ taken (suc keep) q r a b = added a (map (fingerprint q r) b)
 unfoldable pub growthDue : ℕ → ℕ → ℕ
 growthDue q mx = choose (decLe mx q) 7 0
 
--- equal widths: what needs capacity is the result and, with duplicates, the sum of lens, without, the larger len
+-- as many bits on both sides: how many there must be room for, the result, and the two lens together, or, where keep is 0, the larger of them
 unfoldable pub wanted : ℕ → List ℕ → List ℕ → ℕ
 wanted zero a b = max (length (joined zero a b)) (max (length a) (length b))
 wanted (suc keep) a b = max (length (joined (suc keep) a b)) (length a + length b)

@@ -1,3 +1,4 @@
+-- What a reader must believe, at the top, and the rooms of the laws.
 pub mod Answer
 pub mod Changing
 pub mod Examples
@@ -14,9 +15,12 @@ pub mod Sound
 pub mod Text
 pub mod carry
 pub mod check
-pub mod layout
+pub mod images
 pub mod list
 pub mod number
 pub mod plan
 pub mod program
+pub mod reading
+pub mod refusals
 pub mod tools
+pub mod writing

@@ -1,4 +1,4 @@
--- The listing of document 01: where the k-th fingerprint of the ascending list held stands. R = 2 ^ rbits, m is the number of slots.
+-- The listing (docs/RULES.md, "Listing"): where the k-th fingerprint of the ascending list held stands. R = 2 ^ rbits, m is the number of slots.
 use Prim.Native.Nat.{ℕ, _+_, _-_, _/_, _%_}
 use mathlib.Core.List.{List}
 use lib.ListN.{getD}

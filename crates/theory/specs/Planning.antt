@@ -1,5 +1,5 @@
 -- Planning: which widths serve a capacity and a rate, what is then told of the filter, and which numbers planning and a fresh filter ask.
--- Document 01, "Planning".
+-- docs/RULES.md, "Planning".
 use Prim.Native.Nat.{ℕ, zero, suc, _+_, _-_, _*_}
 use mathlib.Core.Bool.{false, cond}
 use native.Mathlib.Decide.{decLe, decLt, ℕ-discrete}
@@ -14,7 +14,7 @@ unfoldable pub widthFrom : ℕ → ℕ → ℕ → ℕ
 widthFrom zero q c = q
 widthFrom (suc k) q c = choose (decLe c (capacity q)) q (widthFrom k (suc q) c)
 
--- slots: the smallest power of two, 64 or more, whose capacity suffices; for capacities up to that of 2 ^ 59 slots
+-- qbits: the least from 6 on with the capacity asked for; for capacities up to that of 2 ^ 59 slots
 unfoldable pub neededQbits : ℕ → ℕ
 neededQbits c = widthFrom 53 6 c
 
@@ -28,7 +28,7 @@ unfoldable pub halvings : ℕ → ℕ → Float → ℕ
 halvings zero k rate = k
 halvings (suc j) k rate = cond (lt rate (halfPow k)) (halvings j (suc k) rate) k
 
--- rbits: the least k ≥ 1 with 2 ^ -k at or below the rate, and at most 64: to clamp the rate to 2 ^ -64 .. 0.5 first changes nothing (plan/Clamp).
+-- rbits: the first k from 1 on for which 2 ^ -k is not above the rate, and at most 64: to clamp the rate to 2 ^ -64 .. 0.5 first changes nothing (plan/Clamp).
 -- A rate that is not a number is below nothing, and gives 1.
 unfoldable pub rbitsFor : Float → ℕ
 rbitsFor rate = halvings 63 1 rate
@@ -37,7 +37,7 @@ rbitsFor rate = halvings 63 1 rate
 abbrev pub perItem : ℕ → Float
 perItem r = fin false (8 * r + 17) (negsuc 2)
 
--- a resizeable filter: rbits also gains max_qbits - qbits, and max_qbits is none if equal to qbits
+-- a filter that can grow: as many bits of remainder more as it may lose, and no max_qbits where it cannot grow at all
 unfoldable pub plannedRbits : ℕ → ℕ → Float → ℕ
 plannedRbits initial most rate = rbitsFor rate + (neededQbits most - neededQbits initial)
 
@@ -67,6 +67,6 @@ unfoldable pub planDue : ℕ → ℕ → Float → ℕ
 planDue initial most rate =
     orElse (orderDue initial most) (orElse (capacityDue most) (sumDue (neededQbits initial) (plannedRbits initial most rate)))
 
--- a fresh filter, from widths and a lent buffer: 1, 4, 12
+-- what a fresh filter asks of the widths and of the length of the buffer: 1, 4, 12
 unfoldable pub freshDue : ℕ → ℕ → ℕ → ℕ → ℕ
 freshDue q r mx size = orElse (widthsDue q r) (orElse (maxDue q r mx) (destinationDue q r size))

@@ -1,6 +1,6 @@
--- Document 01's table of refusals: each number, or 0 where it is not due, and the lowest that is due.
+-- The table of refusals (docs/RULES.md, "Refusals"): each number, or 0 where it is not due, and the lowest that is due.
 -- The numbers of a filter: len, qbits q, rbits r, max_qbits mx (0 means none); size is the length of its buffer.
-use Prim.Native.Nat.{ℕ, zero, suc, _+_, _-_, _≤_, _<_}
+use Prim.Native.Nat.{ℕ, zero, suc, _+_, _-_}
 use native.Mathlib.Decide.{decLt, ℕ-discrete}
 use Rattle.theory.specs.tools.Choose.{choose}
 use Rattle.theory.specs.Shape.{slots, bytes}
@@ -18,7 +18,7 @@ sizeDue q r size = choose (ℕ-discrete size (bytes q r)) 0 2
 unfoldable pub lenDue : ℕ → ℕ → ℕ
 lenDue q len = choose (decLt (slots q) len) 3 0
 
--- 4: max_qbits present and below qbits, above 59 or above qbits + rbits - 1
+-- 4: a max_qbits other than 0 that is below qbits, or above 59, or leaves no bit of remainder
 unfoldable pub maxDue : ℕ → ℕ → ℕ → ℕ
 maxDue q r mx =
     choose (ℕ-discrete mx 0) 0 (choose (decLt mx q) 4 (choose (decLt 59 mx) 4 (choose (decLt (q + r - 1) mx) 4 0)))

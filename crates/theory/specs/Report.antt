@@ -1,4 +1,4 @@
--- What the check program writes, whole, for the bytes s of its standard input. Document 01, "Check program" and its table of refusals.
+-- What the check program writes, whole, for the bytes s of its standard input. docs/RULES.md, "The check program" and "Refusals".
 use Prim.Native.Nat.{ℕ, zero, suc}
 use mathlib.Core.List.{List, _++_}
 use native.Mathlib.Decide.{decLt, ℕ-discrete}
@@ -8,9 +8,9 @@ use Rattle.theory.specs.number.Bytes.{le}
 use Rattle.theory.specs.Refusal.{orElse, widthsDue, dueOf}
 use Rattle.theory.specs.Sound.{Sound}
 use Rattle.theory.specs.Text.{ascii, headline, lines}
-use Rattle.theory.specs.check.Search.{sound-dec}
+use Rattle.theory.specs.refusals.SoundDecided.{sound-dec}
 
--- ---- the input: mark 51 46, len in 8 little-endian bytes, qbits, rbits, max_qbits, buffer
+-- ---- the input: two bytes of mark, eight of len with the lowest first, a byte each of qbits, rbits and max_qbits, and the buffer
 -- len
 unfoldable pub lenOf : List ℕ → ℕ
 lenOf s = le (take 8 (drop 2 s))

@@ -1,4 +1,4 @@
--- What select finds: the position of the n-th one of a word, counted from 0, or none. Document 01, "Select".
+-- What select finds: the position of the n-th one of a word, counted from 0, or none. docs/RULES.md, "Select".
 use Prim.Native.Nat.{ℕ, _≤_, _<_}
 use mathlib.Core.Path.{_≡_}
 use Rattle.theory.specs.number.Field.{field}

@@ -1,5 +1,5 @@
--- The numbers of a shape: qbits q and rbits r. Document 01, "A filter and its numbers".
-use Prim.Native.Nat.{ℕ, _+_, _*_, _/_, _%_, _^_, _≤_, _<_}
+-- The numbers of a shape: qbits q and rbits r. docs/RULES.md, "A filter and its record".
+use Prim.Native.Nat.{ℕ, _+_, _*_, _/_, _%_, _^_, _≤_}
 
 -- slots = 2 ^ qbits
 unfoldable pub slots : ℕ → ℕ
@@ -24,6 +24,6 @@ pub record Widths (q r : ℕ) : Type 0 where
   pub some : 1 ≤ r
   pub sum : q + r ≤ 64
 
--- a fingerprint is the low qbits + rbits bits of the hash given; higher bits are ignored
+-- of a hash the low q + r bits count, its fingerprint, and no others
 unfoldable pub fingerprint : ℕ → ℕ → ℕ → ℕ
 fingerprint q r hash = hash % 2 ^ (q + r)

@@ -1,5 +1,5 @@
--- Sound: none of numbers 1 to 5 is due and the buffer is the image of a holding of len fingerprints. Document 01, "The image of a holding".
-use Prim.Native.Nat.{ℕ, _-_, _^_, _≤_, _<_}
+-- Sound: no number from 1 to 5 is due, and the bytes are the image of a holding that has len fingerprints. docs/RULES.md, "Sound".
+use Prim.Native.Nat.{ℕ, _-_, _^_, _<_}
 use mathlib.Core.Path.{_≡_}
 use mathlib.Core.List.{List}
 use lib.ListN.{length, drop}

@@ -1,3 +1,4 @@
+-- The carry: the walk round the slots.
 pub mod Carry
-pub mod More
+pub mod CarryMore
 pub mod Walk

@@ -1,16 +1,14 @@
+-- The check's two rounds.
 pub mod Accepts
 pub mod Agree
 pub mod Buffer
 pub mod Complete
 pub mod Decides
 pub mod Decode
-pub mod Examples
 pub mod Local
 pub mod Loops
-pub mod Promises
 pub mod Queue
-pub mod Reading
-pub mod Refusals
+pub mod ReadBack
 pub mod Rounds
-pub mod Search
 pub mod Step
+pub mod WrapExample

@@ -1,5 +1,5 @@
+-- Widths for a capacity and a rate; the limit of a merge.
 pub mod Clamp
-pub mod Due
-pub mod Empty
+pub mod Limits
 pub mod Needed
 pub mod Rates

@@ -1,4 +1,6 @@
-pub mod Answers
-pub mod Asked
+-- What the check program writes.
 pub mod Enough
 pub mod Files
+pub mod Lines
+pub mod Numerals
+pub mod TextByDue

@@ -1,3 +1,4 @@
+-- Sums, choices and cases.
 pub mod Cases
 pub mod Choose
 pub mod Tells

@@ -1,14 +1,15 @@
 // What alters the buffer: a fresh filter, insert and remove.
-use crate::bench::Lent;
-use crate::bench::numbers_of;
-use crate::bench::part;
 use crate::say;
 use crate::script::Call;
+use crate::state::Lent;
+use crate::state::numbers_of;
+use crate::state::part;
 use layout::fresh::Made;
 use layout::numbers::Numbers;
 use writing::writers::Inserted;
 use writing::writers::Removed;
 
+// A fresh filter of these widths.
 fn fresh(buf: &mut [u8], n: Numbers, widths: Numbers) -> Numbers {
     let made = layout::fresh::fresh(buf, widths.qbits, widths.rbits, widths.max_qbits);
     match made {
@@ -31,6 +32,7 @@ fn inserted_or(inserted: Inserted, n: Numbers) -> Numbers {
     }
 }
 
+// The same of a remove.
 fn removed_or(removed: Removed, n: Numbers) -> Numbers {
     match removed {
         Removed::Gone(after) => after,
@@ -39,6 +41,7 @@ fn removed_or(removed: Removed, n: Numbers) -> Numbers {
     }
 }
 
+// An insert's answer said, and the record after it.
 fn say_inserted(n: Numbers, inserted: Inserted) -> Numbers {
     match inserted {
         Inserted::Counted(m, after) => {
@@ -53,6 +56,7 @@ fn say_inserted(n: Numbers, inserted: Inserted) -> Numbers {
     }
 }
 
+// A remove's answer said, and the record after it.
 fn say_removed(n: Numbers, removed: Removed) -> Numbers {
     match removed {
         Removed::Gone(after) => {

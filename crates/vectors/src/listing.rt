@@ -1,13 +1,14 @@
 // A listing's beginning and its steps.
-use crate::bench::Lent;
-use crate::bench::part;
 use crate::say;
 use crate::script::Call;
+use crate::state::Lent;
+use crate::state::part;
 use filter::listing::Begun;
 use filter::listing::Place;
 use filter::listing::Step;
 use layout::numbers::Numbers;
 
+// A listing begun: its first place, or the one before.
 fn begin(buf: &[u8], n: Numbers, place: Place) -> Place {
     let begun = filter::listing::begin(buf, n);
     match begun {
@@ -23,6 +24,7 @@ fn begin(buf: &[u8], n: Numbers, place: Place) -> Place {
     }
 }
 
+// A step's answer said.
 fn say_step(step: Step) {
     match step {
         Step::Fingerprint(f) => {
@@ -34,6 +36,7 @@ fn say_step(step: Step) {
     }
 }
 
+// One step by value: its answer said, and the place after it.
 fn step(buf: &[u8], n: Numbers, place: Place) -> Place {
     let stepped = filter::listing::step_from(buf, n, place);
     let step = stepped.step;
@@ -56,6 +59,7 @@ fn two(buf: &[u8], n: Numbers, place: Place) -> Place {
     after
 }
 
+// One call of a listing.
 fn ask(call: Call, buf: &[u8], n: Numbers, place: Place) -> Place {
     let kind = call.kind;
     match kind {

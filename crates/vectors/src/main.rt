@@ -1,10 +1,9 @@
 // Replays a list of calls from standard input and writes a line for each answer, so that the gate tests the compiled code. The file `stdout` has what
 // the original answers: compare/README.md says how it is made, and lists the calls. A test driver promises nothing of its own; it is proved safe, and
 // that it ends.
-use bench::Bench;
 use script::Call;
+use state::State;
 
-mod bench;
 mod changing;
 mod listing;
 mod planning;
@@ -12,6 +11,7 @@ mod reading;
 mod rebuilding;
 mod say;
 mod script;
+mod state;
 
 // The bytes of each of the three buffers; 9/55 needs 3664.
 pub const ROOM: usize = 4096;
@@ -22,50 +22,51 @@ const LINES: u64 = 100000;
 // One call and its line.
 fn run(
     call: Call,
-    bench: Bench,
+    state: State,
     own: &mut [u8; ROOM],
     other: &mut [u8; ROOM],
     dest: &mut [u8; ROOM],
-) -> Bench {
+) -> State {
     let kind = call.kind;
     match kind {
         b'e' | b'q' | b't' | b'w' => {
             planning::answer(call);
-            bench
+            state
         }
         b'k' | b'c' | b'C' | b'n' | b'N' => {
-            reading::answer(call, bench.own, own);
-            bench
+            reading::answer(call, state.own, own);
+            state
         }
-        b'l' | b's' | b'S' => bench.with_place(listing::answer(call, bench.own, own, bench.place)),
+        b'l' | b's' | b'S' => state.with_place(listing::answer(call, state.own, own, state.place)),
         b'f' | b'i' | b'I' | b'm' | b'M' | b'a' | b'x' => {
-            bench.with_own(changing::answer(call, bench.own, own))
+            state.with_own(changing::answer(call, state.own, own))
         }
         b'b' => {
-            bench::damage(call, own);
-            bench.with_own(changing::answer(call, bench.own, own))
+            state::damage(call, own);
+            state.with_own(changing::answer(call, state.own, own))
         }
-        b'g' => bench.with_dest(rebuilding::grow(call, bench, own, dest)),
-        b'p' | b'P' => rebuilding::spare(call, bench, own, dest),
-        b'j' => bench.with_dest(rebuilding::merge(call, bench, own, other, dest)),
-        b'r' => bench.with_own(bench::record(call)),
+        b'g' => state.with_dest(rebuilding::grow(call, state, own, dest)),
+        b'p' | b'P' => rebuilding::spare(call, state, own, dest),
+        b'j' => state.with_dest(rebuilding::merge(call, state, own, other, dest)),
+        b'r' => state.with_own(state::record(call)),
         b'o' => {
-            bench::swap(own, other);
-            bench.other_first()
+            state::swap(own, other);
+            state.other_first()
         }
         b'd' => {
-            bench::swap(own, dest);
-            bench.dest_first()
+            state::swap(own, dest);
+            state.dest_first()
         }
-        _ => bench,
+        _ => state,
     }
 }
 
+// Call by call until the list ends.
 fn main() {
     let mut own = [0; ROOM];
     let mut other = [0; ROOM];
     let mut dest = [0; ROOM];
-    let mut bench = Bench::new();
+    let mut state = State::new();
     let mut left = LINES;
     while 0 < left {
         left -= 1;
@@ -73,7 +74,7 @@ fn main() {
         if call.kind == 0 {
             return;
         }
-        bench = run(call, bench, &mut own, &mut other, &mut dest);
+        state = run(call, state, &mut own, &mut other, &mut dest);
         say::end();
     }
 }

@@ -1,7 +1,7 @@
 // Select and planning: no buffer.
 use crate::say;
 use crate::script::Call;
-use bits::select::Found;
+use bits::select::Nth;
 use layout::planning::FilterSpecs;
 use layout::planning::Needed;
 use layout::planning::Planned;
@@ -10,6 +10,7 @@ use layout::planning::Specified;
 // What is not a number has a larger pattern than infinity, but for the sign.
 const INFINITY: u64 = 0x7ff0000000000000;
 
+// The sign of a pattern.
 const SIGN: u64 = 0x8000000000000000;
 
 // The rate of a bit pattern.
@@ -21,17 +22,19 @@ fn rate_of(pattern: u64) -> f64 {
     }
 }
 
+// The n-th one of a word, said.
 fn select(word: u64, n: u64) {
     let found = bits::select::select(word, n);
     match found {
-        Found::At(p) => {
+        Nth::At(p) => {
             say::word(b"at");
             say::number(p);
         }
-        Found::Nothing => say::word(b"nothing"),
+        Nth::Nothing => say::word(b"nothing"),
     }
 }
 
+// The qbits for a capacity, said.
 fn needed(capacity: u64) {
     let needed = layout::planning::needed_qbits(capacity);
     match needed {
@@ -43,6 +46,7 @@ fn needed(capacity: u64) {
     }
 }
 
+// What a filter comes to, said.
 fn say_specs(s: FilterSpecs) {
     say::word(b"specs");
     say::number(s.max_capacity);
@@ -53,6 +57,7 @@ fn say_specs(s: FilterSpecs) {
     say::float(s.bits_per_item);
 }
 
+// The specs for a capacity and a rate, said.
 fn specs(capacity: u64, pattern: u64) {
     let specified = layout::planning::filter_specs(capacity, rate_of(pattern));
     match specified {
@@ -61,6 +66,7 @@ fn specs(capacity: u64, pattern: u64) {
     }
 }
 
+// The plan for two capacities and a rate, said.
 fn plan(initial: u64, most: u64, pattern: u64) {
     let planned = layout::planning::plan_resizeable(initial, most, rate_of(pattern));
     match planned {

@@ -1,13 +1,14 @@
 // The check, lookups and counts.
-use crate::bench::Lent;
-use crate::bench::part;
 use crate::say;
 use crate::script::Call;
+use crate::state::Lent;
+use crate::state::part;
 use filter::contains::Counting;
 use filter::contains::Lookup;
 use layout::check::Verdict;
 use layout::numbers::Numbers;
 
+// The check's verdict, said.
 fn check(buf: &[u8], n: Numbers) {
     let verdict = layout::check::check(buf, n);
     match verdict {
@@ -16,6 +17,7 @@ fn check(buf: &[u8], n: Numbers) {
     }
 }
 
+// A lookup's answer said.
 fn say_lookup(lookup: Lookup) {
     match lookup {
         Lookup::Held(k) => {
@@ -30,6 +32,7 @@ fn say_lookup(lookup: Lookup) {
     }
 }
 
+// A count's answer said.
 fn say_count(counting: Counting) {
     match counting {
         Counting::Copies(m) => {

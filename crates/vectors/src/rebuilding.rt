@@ -1,14 +1,15 @@
 // Growth, insert with a spare, and merge: the destination is lent, and is the spare too.
-use crate::bench::Bench;
-use crate::bench::Lent;
-use crate::bench::part;
 use crate::say;
 use crate::script::Call;
+use crate::state::Lent;
+use crate::state::State;
+use crate::state::part;
 use growth::holder::holder;
 use growth::rebuild::Rebuilt;
 use growth::spare::Placed;
 use layout::numbers::Numbers;
 
+// The record of what was rebuilt, said; after a refusal, the one before.
 fn say_rebuilt(n: Numbers, rebuilt: Rebuilt) -> Numbers {
     match rebuilt {
         Rebuilt::Filter(after) => {
@@ -34,13 +35,13 @@ fn rebuilt_in(call: Call, before: Lent, dest: &[u8], rebuilt: Rebuilt) -> Lent {
 }
 
 // `g` size of the destination.
-pub fn grow(call: Call, bench: Bench, own: &[u8], dest: &mut [u8]) -> Lent {
-    let lent = bench.own;
+pub fn grow(call: Call, state: State, own: &[u8], dest: &mut [u8]) -> Lent {
+    let lent = state.own;
     let n = lent.numbers;
     let size = part(lent.size, own);
     let end = part(call.x, dest);
     let rebuilt = growth::rebuild::rebuild_grown(&own[..size], n, &mut dest[..end]);
-    rebuilt_in(call, bench.dest, dest, rebuilt)
+    rebuilt_in(call, state.dest, dest, rebuilt)
 }
 
 // `P` is quick.
@@ -52,15 +53,15 @@ fn place(call: Call, buf: &mut [u8], n: Numbers, spare: &mut [u8]) -> Placed {
 }
 
 // Which buffer counts, and its record there.
-fn say_placed(placed: Placed, bench: Bench) -> Bench {
-    let own = bench.own;
-    let dest = bench.dest;
+fn say_placed(placed: Placed, state: State) -> State {
+    let own = state.own;
+    let dest = state.dest;
     match placed {
         Placed::InOld(m, numbers) => {
             say::word(b"old");
             say::number(m);
             say::record(numbers);
-            bench.with_own(Lent {
+            state.with_own(Lent {
                 numbers,
                 size: own.size,
             })
@@ -69,14 +70,14 @@ fn say_placed(placed: Placed, bench: Bench) -> Bench {
             say::word(b"spare");
             say::number(m);
             say::record(numbers);
-            bench.with_dest(Lent {
+            state.with_dest(Lent {
                 numbers,
                 size: dest.size,
             })
         }
         Placed::Refused(k) => {
             say::refused(k);
-            bench
+            state
         }
     }
 }
@@ -92,17 +93,17 @@ fn say_holder(placed: Placed) {
 }
 
 // `p` hash, max_count, size of the spare. Then the sums of both buffers, and which of two the answer hands back.
-pub fn spare(call: Call, bench: Bench, own: &mut [u8], dest: &mut [u8]) -> Bench {
-    let lent = bench.own;
+pub fn spare(call: Call, state: State, own: &mut [u8], dest: &mut [u8]) -> State {
+    let lent = state.own;
     let n = lent.numbers;
-    let before = bench.dest;
+    let before = state.dest;
     let numbers = before.numbers;
     let size = part(lent.size, own);
     let end = part(call.z, dest);
     let placed = place(call, &mut own[..size], n, &mut dest[..end]);
     let after = say_placed(
         placed,
-        bench.with_dest(Lent {
+        state.with_dest(Lent {
             numbers,
             size: call.z,
         }),
@@ -114,11 +115,11 @@ pub fn spare(call: Call, bench: Bench, own: &mut [u8], dest: &mut [u8]) -> Bench
 }
 
 // `j` size of the destination, whether duplicates are kept.
-pub fn merge(call: Call, bench: Bench, own: &[u8], other: &[u8], dest: &mut [u8]) -> Lent {
-    let lent = bench.own;
+pub fn merge(call: Call, state: State, own: &[u8], other: &[u8], dest: &mut [u8]) -> Lent {
+    let lent = state.own;
     let n = lent.numbers;
     let size = part(lent.size, own);
-    let second = bench.other;
+    let second = state.other;
     let m = second.numbers;
     let other_size = part(second.size, other);
     let end = part(call.x, dest);
@@ -130,5 +131,5 @@ pub fn merge(call: Call, bench: Bench, own: &[u8], other: &[u8], dest: &mut [u8]
         call.y,
         &mut dest[..end],
     );
-    rebuilt_in(call, bench.dest, dest, rebuilt)
+    rebuilt_in(call, state.dest, dest, rebuilt)
 }

@@ -1,36 +1,43 @@
 // The parts of an answer's line.
 ghost use Prim.Native.Nat.{_<_};
-use crate::bench::part;
+use crate::state::part;
 use filter::listing::Place;
 use layout::numbers::Numbers;
 
+// The word that a line begins with.
 pub fn word(text: &[u8]) {
     io::write_all(1, text);
 }
 
+// A number in decimal.
 pub fn number(n: u64) {
     io::write_all(1, b" ");
     io::print_decimal(1, n);
 }
 
+// A small number in decimal.
 pub fn small(n: u8) {
     number(n as u64);
 }
 
+// A number in so many hex digits.
 pub fn hex(n: u64, digits: usize) {
     io::write_all(1, b" ");
     io::print_hex(1, n, digits);
 }
 
+// The end of a line.
 pub fn end() {
     io::write_all(1, b"\n");
 }
 
+// A refusal and its number.
 pub fn refused(k: u8) {
     word(b"refused");
     small(k);
 }
 
+// The widths of a record.
 pub fn widths(n: Numbers) {
     small(n.qbits);
     small(n.rbits);
@@ -43,6 +50,7 @@ pub fn record(n: Numbers) {
     widths(n);
 }
 
+// The place of a listing.
 pub fn place(p: Place) {
     number(p.quotient);
     number(p.slot);

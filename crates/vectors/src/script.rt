@@ -1,6 +1,7 @@
 // The list of calls. A line has a letter and three numbers in hex, each with a space before it.
 ghost use Prim.Native.Nat.{_<_};
 
+// One call: its letter and its three numbers.
 pub struct Call {
     pub kind: u8,
     pub x: u64,
@@ -15,6 +16,7 @@ fn byte() -> u8 {
     one[0]
 }
 
+// The value of a hex digit.
 fn digit(c: u8) -> u8
     ensures { λ r. ⌜ r < 16 ⌝ }
 {

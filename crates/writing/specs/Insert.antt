@@ -12,30 +12,31 @@ use Rattle.theory.specs.Changing.{allowed, insertDue, insertAnswer, inserted}
 use Rattle.theory.specs.Image.{Views, many}
 use Rattle.theory.specs.carry.Carry.{FirstFree, first-free}
 use Rattle.theory.specs.list.Seek.{copies-run}
-use Rattle.theory.specs.list.Changed.{enough-due, enough-answer, enough-held, full-due, room-due, more-answer, more-held}
+use Rattle.theory.specs.list.RuleCases.{enough-due, enough-answer, enough-held, full-due, room-due, more-answer, more-held}
 use Rattle.theory.specs.list.More.{place-le, more-length}
 use Rattle.theory.specs.number.Bytes.{le}
-use Rattle.theory.specs.layout.Block.{tailAt, views}
-use Rattle.theory.specs.layout.Views.{many-at}
-use Rattle.theory.specs.layout.Sizes.{slots-blocks, fingerprint-lt, capacity-lt}
-use Rattle.theory.specs.layout.FreeSlot.{run-before}
-use Rattle.theory.specs.layout.More.{more-holding, room}
-use Rattle.theory.specs.layout.Inserting.{Wrote, tail-was, written-image}
+use Rattle.theory.specs.images.Block.{tailAt}
+use Rattle.layout.specs.Whole.{viewsIn}
+use Rattle.theory.specs.images.ByViews.{many-at}
+use Rattle.theory.specs.images.Sizes.{slots-blocks, fingerprint-lt, capacity-lt}
+use Rattle.theory.specs.reading.FreeSlot.{run-before}
+use Rattle.theory.specs.writing.OneMore.{more-holding, room}
+use Rattle.theory.specs.writing.Inserting.{Wrote, tail-was, written-image}
 use Rattle.bits.specs.declared.select.Found.the-variants.{At, Nothing}
 use Rattle.layout.specs.declared.shape.Shape.{Shape}
 use Rattle.writing.specs.declared.insert.Insertion.{Insertion}
 use Rattle.writing.specs.declared.insert.Insertion.the-variants.{Enough, Added, Refused}
 use Rattle.writing.specs.declared.insert.Spot.{Spot}
 use Rattle.filter.specs.Runs.{FreeFrom}
-use Rattle.writing.specs.Spots.{SpotIn, SpotFor}
+use Rattle.writing.specs.CopyIn.{SpotIn, SpotFor}
 use Rattle.filter.specs.Lookup.{Shows, shown-runs}
 
 -- what the core of an insert says: the answer, and how many fingerprints are held then
-pub record Tally : Type 0 where
+pub record CoreAnswer : Type 0 where
   pub answer : ℕ
   pub len : ℕ
 
-abbrev pub insertionSays : ℕ → Insertion → Answer Tally
+abbrev pub insertionSays : ℕ → Insertion → Answer CoreAnswer
 insertionSays len (Enough c) = gives (record { answer = c; len = len })
 insertionSays len (Added m) = gives (record { answer = m; len = len + 1 })
 insertionSays len (Refused k) = refuses k
@@ -53,11 +54,11 @@ pub record InsertsCore (h : Shape) (len hash most : ℕ) (s : List ℕ) (a : Ins
   pub tail : tailAt (h .rbits) (blocks (h .qbits)) (le t) ≡ tailAt (h .rbits) (blocks (h .qbits)) (le s)
 
 -- how the code comes to it
-abbrev tally : ℕ → ℕ → Tally
-tally answer len = record { answer = answer; len = len }
+abbrev coreAnswer : ℕ → ℕ → CoreAnswer
+coreAnswer answer len = record { answer = answer; len = len }
 
-same-tally : {a b len len′ : ℕ} → a ≡ b → len ≡ len′ → gives (tally a len) ≡ gives (tally b len′)
-same-tally e f = λ i. gives (tally (e i) (f i))
+same-answer : {a b len len′ : ℕ} → a ≡ b → len ≡ len′ → gives (coreAnswer a len) ≡ gives (coreAnswer b len′)
+same-answer e f = λ i. gives (coreAnswer (e i) (f i))
 
 module _ (h : Shape) (low : 6 ≤ h .qbits) (s : List ℕ) (len hash most x rem : ℕ) (p : Spot)
     (ex : x ≡ fingerprint (h .qbits) (h .rbits) hash / 2 ^ h .rbits) (b : x < slots (h .qbits)) (er : rem ≡ fingerprint (h .qbits) (h .rbits) hash % 2 ^ h .rbits)
@@ -69,7 +70,7 @@ module _ (h : Shape) (low : 6 ≤ h .qbits) (s : List ℕ) (len hash most x rem 
   m = slots (h .qbits)
 
   abbrev v : Views
-  v = views (h .rbits) (le s)
+  v = viewsIn h s
 
   abbrev counts : List ℕ → ℕ → ℕ
   counts l = many (slots (h .qbits)) (2 ^ h .rbits) l
@@ -84,17 +85,17 @@ module _ (h : Shape) (low : 6 ≤ h .qbits) (s : List ℕ) (len hash most x rem 
   spot : (l : List ℕ) → Shows h s l → SpotIn m (counts l) (f / 2 ^ h .rbits) (f % 2 ^ h .rbits) (run (2 ^ h .rbits) l (f / 2 ^ h .rbits)) p
   spot l w = rw (ex, er) at (sp .right l w)
 
-  tallied : (l : List ℕ) → Shows h s l → p .copies ≡ copies f l
-  tallied l w = spot l w .met ∙ sym (copies-run (2 ^ h .rbits) (pow-pos (h .rbits)) f l)
+  counted-all : (l : List ℕ) → Shows h s l → p .copies ≡ copies f l
+  counted-all l w = spot l w .met ∙ sym (copies-run (2 ^ h .rbits) (pow-pos (h .rbits)) f l)
 
   pub core-enough : c ≤ p .copies → InsertsCore h len hash most s (Enough c) s
   core-enough q = record {
     right = λ l w n.
-        let enough : allowed most ≤ copies f l = omega (arith, asked, tallied l w) in
+        let enough : allowed most ≤ copies f l = omega (arith, asked, counted-all l w) in
         let held = enough-held cap most f l enough in
         record {
           refused = λ z. absurd (omega (arith, enough-due cap most f l enough));
-          done = λ _. (same-tally (asked ∙ sym (enough-answer cap most f l enough)) (sym n ∙ ap length (sym held)), rw held w);
+          done = λ _. (same-answer (asked ∙ sym (enough-answer cap most f l enough)) (sym n ∙ ap length (sym held)), rw held w);
         };
     kept = λ k z. refl;
     tail = refl;
@@ -102,7 +103,7 @@ module _ (h : Shape) (low : 6 ≤ h .qbits) (s : List ℕ) (len hash most x rem 
 
   module _ (q : p .copies < c) where
     fewer-held : (l : List ℕ) → Shows h s l → copies f l < allowed most
-    fewer-held l w = omega (arith, asked, tallied l w)
+    fewer-held l w = omega (arith, asked, counted-all l w)
 
     pub core-full : capacity (h .qbits) ≤ len → InsertsCore h len hash most s (Refused 7) s
     core-full y = record {
@@ -157,7 +158,7 @@ module _ (h : Shape) (low : 6 ≤ h .qbits) (s : List ℕ) (len hash most x rem 
                 record {
                   refused = λ z. absurd (omega (arith, room-due cap most f l (omega arith)));
                   done = λ _. (
-                    same-tally (tallied l w ∙ sym (more-answer cap most f l few)) (omega (arith, ap length held, more-length f l)),
+                    same-answer (counted-all l w ∙ sym (more-answer cap most f l few)) (omega (arith, ap length held, more-length f l)),
                     rw held (shows l w n),
                   );
                 };

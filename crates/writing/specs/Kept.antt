@@ -1,30 +1,27 @@
 -- Sound stays sound: the buffer that an insert or a remove leaves, with the record that it gives, is a sound filter. Assumes nothing.
-use Prim.Native.Nat.{ℕ, _^_, _<_}
+use Prim.Native.Nat.{ℕ, _^_}
 use mathlib.Core.Path.{_≡_, refl, sym, ap, subst, _∙_}
-use mathlib.Core.Logic.{_⊎_, inl, inr}
 use mathlib.Core.List.{List}
 use native.Mathlib.Omega.{arith}
-use native.Mathlib.Nat.{eq-zero-or-pos}
 use lib.ListN.{length}
 use lib.Pow.{pow-pos}
-use Rattle.theory.specs.Answer.{gives, number, values}
+use Rattle.theory.specs.Answer.{gives}
 use Rattle.theory.specs.Shape.{slots, capacity}
 use Rattle.theory.specs.Holding.{Holding, fewer}
 use Rattle.theory.specs.Changing.{Rule, insertDue, inserted}
 use Rattle.theory.specs.Image.{image}
-use Rattle.theory.specs.layout.Images.{image-length}
-use Rattle.theory.specs.layout.Kept.{inserted-holding, removed-holding}
-use Rattle.theory.specs.layout.Sizes.{fingerprint-lt, capacity-lt}
-use Rattle.theory.specs.check.Promises.{not-refused}
-use Rattle.theory.specs.check.Refusals.{none-due, clear-none}
+use Rattle.theory.specs.images.ImageBytes.{image-length}
+use Rattle.theory.specs.list.StillHolding.{inserted-holding, removed-holding}
+use Rattle.theory.specs.images.Sizes.{fingerprint-lt, capacity-lt}
+use Rattle.theory.specs.refusals.Demands.{not-refused}
+use Rattle.theory.specs.refusals.ByNumber.{clear-none}
+use Rattle.layout.specs.Judging.{clear-of}
 use Rattle.layout.specs.declared.numbers.Numbers.{Numbers}
-use Rattle.layout.specs.Records.{withLen, Changed, changed}
-use Rattle.layout.specs.Verdicts.{lowestDue, SoundOf}
+use Rattle.layout.specs.Records.{withLen, Changed, changed, lowestDue, SoundOf, fingerprintOf, HoldsOf}
+use Rattle.layout.specs.Outcomes.{leaves-given}
 use Rattle.writing.specs.declared.writers.Inserted.the-variants.{Counted}
 use Rattle.writing.specs.declared.writers.Removed.the-variants.{Gone}
-use Rattle.filter.specs.Asking.{fingerprintOf}
-use Rattle.filter.specs.Listing.{HoldsOf}
-use Rattle.writing.specs.Writing.{Turns, TurnsOn, inserting, removing, Insert, Remove}
+use Rattle.writing.specs.Writing.{TurnsOn, inserting, removing, Insert, Remove}
 
 -- holdings of the widths of a record
 abbrev pub HoldingOf : Numbers → List ℕ → Type 0
@@ -34,7 +31,7 @@ HoldingOf n l = Holding (slots (n .qbits)) (2 ^ n .rbits) l
 module _ (n : Numbers) (s : List ℕ) (e : lowestDue n s ≡ 0) (g t : List ℕ) (is : t ≡ image (n .qbits) (n .rbits) g) (h : HoldingOf n g) where
   pub other-clear : lowestDue (withLen n (length g)) t ≡ 0
   other-clear =
-      let d = none-due (n .qbits) (n .rbits) (n .len) (n .«max_qbits») (length s) e in
+      let d = clear-of n s e in
       clear-none (n .qbits) (n .rbits) (length g) (n .«max_qbits») (length t) (record {
         widths = d .widths;
         size-is = ap length is ∙ image-length (n .qbits) (n .rbits) g;
@@ -50,27 +47,19 @@ module _ (n : Numbers) (s l : List ℕ) (e : lowestDue n s ≡ 0) (h : HoldsOf n
   pub insert-holding : (most : ℕ) → insertDue (capacity (n .qbits)) most (fingerprintOf n hash) l ≡ 0 → HoldingOf n (inserted most (fingerprintOf n hash) l)
   insert-holding most =
       inserted-holding (slots (n .qbits)) (2 ^ n .rbits) (fingerprintOf n hash) l (h .holding) (capacity (n .qbits)) most
-      (capacity-lt (n .qbits) (none-due (n .qbits) (n .rbits) (n .len) (n .«max_qbits») (length s) e .widths .low)) (fingerprint-lt (n .qbits) (n .rbits) hash)
+      (capacity-lt (n .qbits) (clear-of n s e .widths .low)) (fingerprint-lt (n .qbits) (n .rbits) hash)
 
   pub remove-holding : HoldingOf n (fewer (fingerprintOf n hash) l)
   remove-holding = removed-holding (slots (n .qbits)) (2 ^ n .rbits) (fingerprintOf n hash) l (h .holding) (pow-pos (n .rbits))
 
 -- ---- a change that is not refused
 module _ (n : Numbers) (rule : Rule) (s : List ℕ) (c : Changed) (t : List ℕ) where
-  -- was not due, and turned record and buffer by the rule
-  pub turned : (l : List ℕ) → Turns n rule l s (gives c) t → (rule .due l ≡ 0) × (c ≡ changed (rule .answer l) (withLen n (length (rule .held l)))) × (t ≡ image (n .qbits) (n .rbits) (rule .held l))
-  turned l p = go (eq-zero-or-pos (rule .due l))
-    where
-      go : (rule .due l ≡ 0) ⊎ (0 < rule .due l) → (rule .due l ≡ 0) × (c ≡ changed (rule .answer l) (withLen n (length (rule .held l)))) × (t ≡ image (n .qbits) (n .rbits) (rule .held l))
-      go (inl z) = (z, ap (values c) (p .done z .0), p .done z .1)
-      go (inr z) = absurd (omega (arith, ap number (p .refused z .0)))
-
   -- of a filter that was sound, and left one that is
   turn-sound : ((l : List ℕ) → lowestDue n s ≡ 0 → HoldsOf n s l → rule .due l ≡ 0 → HoldingOf n (rule .held l)) → TurnsOn n rule s (gives c) t → SoundOf (c .numbers) t
   turn-sound keeps p =
       let y = not-refused _ _ _ _ s _ _ p (λ k z. let x : _≡_ {A = ℕ} 0 1 = cc (z .0) in omega arith) in
       let l = y .0 .held in
-      let w = turned l (y .1) in
+      let w = leaves-given _ _ n (rule .held l) s c t (y .1) in
       let h = keeps l (y .0 .none) (y .0 .holds) (w .0) in
       subst (λ (x : Changed). SoundOf (x .numbers) t) (sym (w .1)) (record {
         none = other-clear n s (y .0 .none) (rule .held l) t (w .2) h;

@@ -1,16 +1,14 @@
 -- What the promises of insert and remove pin down: any two outcomes (the answer with its record, and every lent byte) that keep the promise coincide. Checked calls: for all inputs.
 -- Quick calls: where a number 1 to 5 is due or the buffer is sound, and there they equal the checked ones. What is left open is in docs/EXCEPTIONS.md. Assumes nothing.
-use Prim.Native.Nat.{ℕ, _<_}
+use Prim.Native.Nat.{ℕ}
 use mathlib.Core.Path.{_≡_}
-use mathlib.Core.Logic.{_⊎_, inl, inr}
 use mathlib.Core.List.{List}
-use native.Mathlib.Nat.{eq-zero-or-pos}
 use Rattle.theory.specs.Answer.{Answer, refuses}
 use Rattle.theory.specs.Changing.{Rule}
-use Rattle.theory.specs.check.Promises.{checked-one, quick-one, quick-checked}
+use Rattle.theory.specs.refusals.Demands.{checked-one, quick-one, quick-checked}
 use Rattle.layout.specs.declared.numbers.Numbers.{Numbers}
 use Rattle.layout.specs.Records.{Changed}
-use Rattle.filter.specs.Pinned.{Settled, alike, apart}
+use Rattle.layout.specs.Outcomes.{Settled, alike, apart, leaves-one}
 use Rattle.writing.specs.declared.writers.Inserted.{Inserted}
 use Rattle.writing.specs.declared.writers.Removed.{Removed}
 use Rattle.writing.specs.Says.{insertedSays, inserted-tells, removedSays, removed-tells}
@@ -28,11 +26,7 @@ module _ {E : Type 0} (says : E → Answer Changed) (tells : (a b : E) → says 
   no-one k = alike says tells
 
   right-one : (l : List ℕ) (x y : E × List ℕ) → Right l x → Right l y → x ≡ y
-  right-one l x y p q = go (eq-zero-or-pos (rule .due l))
-    where
-      go : (rule .due l ≡ 0) ⊎ (0 < rule .due l) → x ≡ y
-      go (inl z) = alike says tells x y (p .done z) (q .done z)
-      go (inr z) = alike says tells x y (p .refused z) (q .refused z)
+  right-one l = leaves-one says tells _ _ n (rule .held l) s
 
   module _ (a b : E) (t u : List ℕ) where
     turn-pinned : TurnsOn n rule s (says a) t → TurnsOn n rule s (says b) u → (a ≡ b) × (t ≡ u)

@@ -12,33 +12,34 @@ use Rattle.theory.specs.Answer.{Answer, gives, refuses}
 use Rattle.theory.specs.Holding.{copies, fewer, more, run, Holding}
 use Rattle.theory.specs.Changing.{removeAnswer}
 use Rattle.theory.specs.Image.{Views, many, start, carry}
-use Rattle.theory.specs.carry.More.{upto}
-use Rattle.theory.specs.list.Changed.{absent-answer, held-answer, fewer-absent}
+use Rattle.theory.specs.carry.CarryMore.{upto}
+use Rattle.theory.specs.list.RuleCases.{absent-answer, held-answer, fewer-absent}
 use Rattle.theory.specs.list.Last.{last-held}
 use Rattle.theory.specs.list.More.{place, place-le}
 use Rattle.theory.specs.list.Seek.{copies-run}
 use Rattle.theory.specs.number.Bytes.{le}
-use Rattle.theory.specs.layout.Behind.{Runs}
-use Rattle.theory.specs.layout.Block.{tailAt, views}
-use Rattle.theory.specs.layout.FreeSlot.{run-before}
-use Rattle.theory.specs.layout.More.{room}
-use Rattle.theory.specs.layout.Pushed.{LastShifted}
-use Rattle.theory.specs.layout.Removing.{TookOut, taken-tail, taken-runs, removed-image, room-shifted, start-kept, left-over, put-back, fewer-length, fewer-holding, run-shorter, last-goes}
-use Rattle.theory.specs.layout.Sizes.{slots-blocks, fingerprint-lt}
-use Rattle.theory.specs.layout.Views.{Image, many-at}
+use Rattle.theory.specs.reading.BehindRun.{Runs}
+use Rattle.theory.specs.images.Block.{tailAt, views}
+use Rattle.layout.specs.Whole.{viewsIn}
+use Rattle.theory.specs.reading.FreeSlot.{run-before}
+use Rattle.theory.specs.writing.OneMore.{room}
+use Rattle.theory.specs.reading.LastShifted.{LastShifted}
+use Rattle.theory.specs.writing.Removing.{TookOut, taken-tail, taken-runs, removed-image, room-shifted, start-kept, carry-without, put-back, fewer-length, fewer-holding, run-shorter, last-goes}
+use Rattle.theory.specs.images.Sizes.{slots-blocks, fingerprint-lt}
+use Rattle.theory.specs.images.ByViews.{Image, many-at}
 use Rattle.bits.specs.declared.select.Found.the-variants.{At, Nothing}
 use Rattle.layout.specs.declared.shape.Shape.{Shape}
-use Rattle.writing.specs.declared.remove.Place.{Place}
-use Rattle.writing.specs.declared.remove.Leaving.the-variants.{Copy, NoCopy}
+use Rattle.writing.specs.declared.remove.GoingCopy.{GoingCopy}
+use Rattle.writing.specs.declared.remove.Going.the-variants.{Copy, NoCopy}
 use Rattle.writing.specs.declared.remove.Removal.{Removal}
 use Rattle.writing.specs.declared.remove.Removal.the-variants.{Gone, Absent, Damaged}
-use Rattle.writing.specs.Leaving.{LeavingFor, CopyIn}
+use Rattle.writing.specs.CopyOut.{GoingFor, GoingIn}
 use Rattle.filter.specs.Lookup.{Shows, shown-runs}
-use Rattle.filter.specs.Runs.{OffsetOf}
+use Rattle.theory.specs.reading.Walks.{OffsetOf}
 use Rattle.writing.specs.Shifted.{ShiftedFrom, Renews}
 
 -- what is written: all but the offset bytes, then those told anew from the carry o before the quotient's block, less one if the slot cleared lies in that block, a round on
-pub record WroteOut (r m B q : ℕ) (p : Place) (e x : ℕ) (a : Removal) (x′ : ℕ) : Type 0 where
+pub record WroteOut (r m B q : ℕ) (p : GoingCopy) (e x : ℕ) (a : Removal) (x′ : ℕ) : Type 0 where
   pub o : ℕ
   pub x₁ : ℕ
   pub offset : OffsetOf m (views r x) (q / 64) o
@@ -74,12 +75,12 @@ module _ (h : Shape) (low : 6 ≤ h .qbits) (s : List ℕ) (hash x rem : ℕ)
   R = 2 ^ h .rbits
 
   abbrev v : Views
-  v = views (h .rbits) (le s)
+  v = viewsIn h s
 
   abbrev counts : List ℕ → ℕ → ℕ
   counts l = many (slots (h .qbits)) (2 ^ h .rbits) l
 
-  pub core-absent : LeavingFor h s x rem NoCopy → RemovesCore h hash s Absent s
+  pub core-absent : GoingFor h s x rem NoCopy → RemovesCore h hash s Absent s
   core-absent p = record {
     right = λ l w. record { says = ap gives (sym (absent-answer f l (none l w))); shows = rw (fewer-absent f l (none l w)) w };
     tail = refl;
@@ -88,8 +89,8 @@ module _ (h : Shape) (low : 6 ≤ h .qbits) (s : List ℕ) (hash x rem : ℕ)
       none : (l : List ℕ) → Shows h s l → copies f l ≡ 0
       none l w = copies-run R (pow-pos (h .rbits)) f l ∙ (rw (ex, er) at (p .right l w))
 
-  module _ (p : Place) (g : LeavingFor h s x rem (Copy p)) where
-    copy : (l : List ℕ) → Shows h s l → CopyIn m (counts l) (f / R) (f % R) (run R l (f / R)) p
+  module _ (p : GoingCopy) (g : GoingFor h s x rem (Copy p)) where
+    copy : (l : List ℕ) → Shows h s l → GoingIn m (counts l) (f / R) (f % R) (run R l (f / R)) p
     copy l w = rw (ex, er) at (g .right l w)
 
     held : (l : List ℕ) → Shows h s l → 0 < copies f l
@@ -167,7 +168,7 @@ module _ (h : Shape) (low : 6 ≤ h .qbits) (s : List ℕ) (hash x rem : ℕ)
           wrote : WroteOut (h .rbits) m (blocks (h .qbits)) (f / R) p e (le s) a (le t)
           wrote = rw ex at y
 
-          was : Image m R (more f (fewer f l)) (views (h .rbits) (le s))
+          was : Image m R (more f (fewer f l)) (viewsIn h s)
           was = rw (back l w) (w .image)
 
           runs : Runs m n (views (h .rbits) (wrote .x₁))
@@ -176,7 +177,7 @@ module _ (h : Shape) (low : 6 ≤ h .qbits) (s : List ℕ) (hash x rem : ℕ)
 
           carried : wrote .o - upto e (64 * (f / R / 64) + m) ≡ carry m n (64 * (f / R / 64))
           carried =
-              let c = rw (back l w) at (left-over (h .rbits) m (blocks (h .qbits)) (slots-blocks (h .qbits) low) (fewer f l) f (rest l w) (u l w) (few l w)) in
+              let c = rw (back l w) at (carry-without (h .rbits) m (blocks (h .qbits)) (slots-blocks (h .qbits) low) (fewer f l) f (rest l w) (u l w) (few l w)) in
               omega (arith, wrote .offset .right (counts l) (shown-runs h s l w x b) (w .image .offsets), ap (λ g. upto g (64 * (f / R / 64) + m)) (at-freed l w), c)
 
           done : (a ≡ Gone) × Shows h t (fewer f l)

@@ -1,5 +1,5 @@
 -- What follows of the promises of insert and remove: inserting and then removing one copy puts every byte and the record back, and the order of inserts leaves no trace.
--- Said of checked calls; on a sound buffer the quick ones are equal (Pinned). How offsets at 254, 255 and 256 go up and down is in the theory, layout/Saturated. Assumes nothing.
+-- Said of checked calls; on a sound buffer the quick ones are equal (Pinned). How offsets at 254, 255 and 256 go up and down is in the theory, writing/SaturatedOffsets. Assumes nothing.
 use Prim.Native.Nat.{ℕ, suc, _<_}
 use mathlib.Core.Path.{_≡_, refl, sym, ap, subst, _∙_}
 use mathlib.Core.Logic.{_⊎_, inl, inr}
@@ -12,20 +12,18 @@ use Rattle.theory.specs.Holding.{copies, more, fewer}
 use Rattle.theory.specs.Changing.{insertDue, insertAnswer, inserted}
 use Rattle.theory.specs.Image.{image}
 use Rattle.theory.specs.Joining.{added}
-use Rattle.theory.specs.list.Changed.{due-none, held-answer}
+use Rattle.theory.specs.list.RuleCases.{due-none, held-answer}
 use Rattle.theory.specs.list.Copies.{copies-more-here}
-use Rattle.theory.specs.list.Traces.{fewer-more, added-order}
+use Rattle.theory.specs.list.NoTrace.{fewer-more, added-order}
 use Rattle.layout.specs.declared.numbers.Numbers.{Numbers}
-use Rattle.layout.specs.Records.{withLen, Changed, changed}
-use Rattle.layout.specs.Verdicts.{lowestDue, SoundOf}
+use Rattle.layout.specs.Records.{withLen, Changed, changed, lowestDue, SoundOf, fingerprintOf, HoldsOf}
+use Rattle.layout.specs.Outcomes.{leaves-given}
 use Rattle.writing.specs.declared.writers.Inserted.the-variants.{Counted}
 use Rattle.writing.specs.declared.writers.Removed.{Removed}
 use Rattle.writing.specs.declared.writers.Removed.the-variants.{Gone}
-use Rattle.filter.specs.Asking.{fingerprintOf}
-use Rattle.filter.specs.Listing.{HoldsOf}
 use Rattle.writing.specs.Says.{removedSays, removed-tells}
 use Rattle.writing.specs.Writing.{Turns, inserting, Insert, Remove}
-use Rattle.writing.specs.Kept.{HoldingOf, other-clear, other-holds, insert-holding, turned}
+use Rattle.writing.specs.Kept.{HoldingOf, other-clear, other-holds, insert-holding}
 
 -- an insert that adds a copy: it is not refused, and the record afterwards has one fingerprint more
 pub record Adds (n : Numbers) (hash : ℕ) (s : List ℕ) (n′ : Numbers) (t : List ℕ) : Type 0 where
@@ -50,7 +48,7 @@ module _ (n : Numbers) (s l : List ℕ) (e : lowestDue n s ≡ 0) (h : HoldsOf n
     where
       w : (insertDue (capacity (n .qbits)) most f l ≡ 0) × (changed m n′ ≡ changed (insertAnswer most f l) (withLen n (length (inserted most f l))))
           × (t ≡ image (n .qbits) (n .rbits) (inserted most f l))
-      w = turned n (inserting n hash most) s (changed m n′) t l p
+      w = leaves-given _ _ n (inserted most (fingerprintOf n hash) l) s (changed m n′) t p
 
       numbers : n′ ≡ withLen n (length (inserted most f l))
       numbers = ap (λ (x : Changed). x .numbers) (w .1)

@@ -1,4 +1,4 @@
--- The promises of insert and remove, document 01.
+-- The promises of insert and remove (docs/RULES.md, "Insert" and "Remove").
 use Prim.Native.Nat.{ℕ, _+_, _-_, _^_, _<_}
 use mathlib.Core.Path.{_≡_, refl, sym, ap, _∙_}
 use mathlib.Core.Logic.{_⊎_, inl, inr}
@@ -12,17 +12,16 @@ use Rattle.theory.specs.Shape.{slots, capacity, blocks, bytes}
 use Rattle.theory.specs.Holding.{copies, fewer}
 use Rattle.theory.specs.Changing.{Rule, insertRule, removeRule, inserted, removeAnswer}
 use Rattle.theory.specs.Image.{image}
-use Rattle.theory.specs.Sound.{Holds, lastEight}
+use Rattle.theory.specs.Sound.{lastEight}
 use Rattle.theory.specs.number.Bytes.{Bytes, le}
-use Rattle.theory.specs.layout.Block.{tailAt}
-use Rattle.theory.specs.layout.Images.{image-tail}
-use Rattle.theory.specs.layout.IsImage.{is-image}
-use Rattle.theory.specs.layout.Tail.{tail-bytes}
-use Rattle.theory.specs.layout.Removing.{fewer-length}
-use Rattle.theory.specs.list.Changed.{absent-answer, held-answer, fewer-absent}
-use Rattle.theory.specs.check.Refusals.{none-due}
+use Rattle.theory.specs.images.Block.{tailAt}
+use Rattle.theory.specs.images.ImageBytes.{image-tail}
+use Rattle.theory.specs.images.IsImage.{is-image}
+use Rattle.theory.specs.images.Tail.{tail-bytes}
+use Rattle.theory.specs.writing.Removing.{fewer-length}
+use Rattle.theory.specs.list.RuleCases.{absent-answer, held-answer, fewer-absent}
 use Rattle.layout.specs.declared.numbers.Numbers.{Numbers}
-use Rattle.layout.specs.Records.{withLen, Changed, changed}
+use Rattle.layout.specs.Records.{shapeOf, withLen, lowestDue, HoldsOf, fingerprintOf, CheckedOn, QuickOn, Leaves, Changed, changed}
 use Rattle.writing.specs.declared.insert.Insertion.{Insertion}
 use Rattle.writing.specs.declared.insert.Insertion.the-variants as core
 use Rattle.writing.specs.declared.writers.Inserted.{Inserted}
@@ -31,18 +30,16 @@ use Rattle.writing.specs.declared.remove.Removal.{Removal}
 use Rattle.writing.specs.declared.remove.Removal.the-variants as removal
 use Rattle.writing.specs.declared.writers.Removed.{Removed}
 use Rattle.writing.specs.declared.writers.Removed.the-variants as removed
-use Rattle.filter.specs.Asking.{CheckedOn, QuickOn, fingerprintOf, shapeOf, holds-shows}
-use Rattle.layout.specs.Verdicts.{lowestDue}
-use Rattle.layout.specs.Judging.{clear-whole}
+use Rattle.filter.specs.Asking.{holds-shows}
+use Rattle.layout.specs.Judging.{clear-whole, clear-of}
 use Rattle.filter.specs.Lookup.{Shows}
 use Rattle.writing.specs.Says.{insertedSays, removedSays}
-use Rattle.writing.specs.Insert.{Tally, insertionSays, InsertsCore}
+use Rattle.writing.specs.Insert.{CoreAnswer, insertionSays, InsertsCore}
 use Rattle.writing.specs.Remove.{removalSays, RemovesCore}
 
 -- a change in place by a rule, of a filter that holds l: a number is due, and record and buffer stay; or none is, and answer, len and buffer are the rule's
-pub record Turns (n : Numbers) (rule : Rule) (l s : List ℕ) (a : Answer Changed) (t : List ℕ) : Type 0 where
-  pub refused : 0 < rule .due l → (a ≡ refuses (rule .due l)) × (t ≡ s)
-  pub done : rule .due l ≡ 0 → (a ≡ gives (changed (rule .answer l) (withLen n (length (rule .held l))))) × (t ≡ image (n .qbits) (n .rbits) (rule .held l))
+abbrev pub Turns : Numbers → Rule → List ℕ → List ℕ → Answer Changed → List ℕ → Type 0
+Turns n rule l s a t = Leaves (rule .due l) (changed (rule .answer l) (withLen n (length (rule .held l)))) n (rule .held l) s a t
 
 -- a checked change: a refusal returns its number alone; the buffer stays the same
 abbrev pub TurnsOn : Numbers → Rule → List ℕ → Answer Changed → List ℕ → Type 0
@@ -83,7 +80,7 @@ RemoveQuick n hash s a t = TurnsQuick n (removing n hash) s (removedSays n a) t 
 
 -- ---- how the code comes to it
 pub record InsertWorked (n : Numbers) (hash most : ℕ) (s : List ℕ) (a : Inserted) (t : List ℕ) : Type 0 where
-  pub right : (l : List ℕ) → Holds (n .qbits) (n .rbits) (n .len) s l → Turns n (inserting n hash most) l s (insertedSays a) t
+  pub right : (l : List ℕ) → HoldsOf n s l → Turns n (inserting n hash most) l s (insertedSays a) t
   pub inside : InsertLeaves s a t
 
 pub inside-same : (s : List ℕ) → Inside s s
@@ -93,14 +90,14 @@ inside-same s = record { size = refl; tail = refl }
 module _ (n : Numbers) (s t : List ℕ) (e : lowestDue n s ≡ 0) (bs : Bytes s) (bt : Bytes t) (len : length t ≡ length s)
     (tail : tailAt (n .rbits) (blocks (n .qbits)) (le t) ≡ tailAt (n .rbits) (blocks (n .qbits)) (le s)) where
   size : length s ≡ bytes (n .qbits) (n .rbits)
-  size = none-due (n .qbits) (n .rbits) (n .len) (n .«max_qbits») (length s) e .size-is
+  size = clear-of n s e .size-is
 
   pub stays-inside : Inside s t
   stays-inside = record { size = len; tail = tail-bytes (n .qbits) (n .rbits) s t bs bt size (len ∙ size) tail }
 
-  pub shows-image : (l l′ : List ℕ) → Holds (n .qbits) (n .rbits) (n .len) s l → Shows (shapeOf n) t l′ → t ≡ image (n .qbits) (n .rbits) l′
+  pub shows-image : (l l′ : List ℕ) → HoldsOf n s l → Shows (shapeOf n) t l′ → t ≡ image (n .qbits) (n .rbits) l′
   shows-image l l′ h w =
-      is-image (n .qbits) (n .rbits) (none-due (n .qbits) (n .rbits) (n .len) (n .«max_qbits») (length s) e .widths .low) l′ (w .holding) t bt (len ∙ size) (w .image)
+      is-image (n .qbits) (n .rbits) (clear-of n s e .widths .low) l′ (w .holding) t bt (len ∙ size) (w .image)
       (tail ∙ ap (λ z. tailAt (n .rbits) (blocks (n .qbits)) (le z)) (h .bytes) ∙ image-tail (n .qbits) (n .rbits) l)
 
 -- the answer of the core, with the record afterwards
@@ -110,7 +107,7 @@ insertedFrom n (core.Added m) = Counted m (withLen n (n .len + 1))
 insertedFrom n (core.Refused k) = Refused k
 
 -- what it says, by what the core says
-abbrev recorded : Numbers → Answer Tally → Answer Changed
+abbrev recorded : Numbers → Answer CoreAnswer → Answer Changed
 recorded n (gives c) = gives (changed (c .answer) (withLen n (c .len)))
 recorded n (refuses k) = refuses k
 
@@ -137,7 +134,7 @@ insert-worked n hash most s t a e bs bt len c = record {
 }
 
 pub record RemoveWorked (n : Numbers) (hash : ℕ) (s : List ℕ) (a : Removed) (t : List ℕ) : Type 0 where
-  pub right : (l : List ℕ) → Holds (n .qbits) (n .rbits) (n .len) s l → Turns n (removing n hash) l s (removedSays n a) t
+  pub right : (l : List ℕ) → HoldsOf n s l → Turns n (removing n hash) l s (removedSays n a) t
   pub inside : Inside s t
 
 abbrev pub removedFrom : Numbers → Removal → Removed
@@ -156,7 +153,7 @@ removed-gone n removal.Gone e = refl
 removed-gone n removal.Absent e = absurd (omega (arith, ap (values 2) e))
 removed-gone n removal.Damaged e = absurd (omega (arith, ap (values 2) e))
 
-removed-says : (n : Numbers) (s l : List ℕ) → Holds (n .qbits) (n .rbits) (n .len) s l → (f : ℕ) (a : Removal) → removalSays a ≡ gives (removeAnswer f l)
+removed-says : (n : Numbers) (s l : List ℕ) → HoldsOf n s l → (f : ℕ) (a : Removal) → removalSays a ≡ gives (removeAnswer f l)
     → removedSays n (removedFrom n a) ≡ gives (changed (removeAnswer f l) (withLen n (length (fewer f l))))
 removed-says n s l h f a e = go (eq-zero-or-pos (copies f l))
   where

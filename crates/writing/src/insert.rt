@@ -1,22 +1,21 @@
 // One copy more of a fingerprint.
-ghost use mathlib.Core.Path.{_≡_};
-ghost use Prim.Native.Nat.{ℕ, _+_, _*_, _/_, _%_, _^_, _<_, _≤_};
+ghost use Prim.Native.Nat.{_+_, _^_, _<_, _≤_};
 ghost use lib.ListN.{length};
 ghost use Rattle.theory.specs.Shape.{slots, blocks};
 ghost use Rattle.theory.specs.number.Bytes.{le};
-ghost use Rattle.theory.specs.layout.Block.{views};
-ghost use Rattle.theory.specs.layout.Inserting.{Wrote};
-ghost use Rattle.layout.specs.Whole.{Whole};
-ghost use Rattle.writing.specs.Spots.{Scanned, SpotFor, Unrolled};
+ghost use Rattle.theory.specs.writing.Inserting.{Wrote};
+ghost use Rattle.layout.specs.Whole.{Whole, viewsIn};
+ghost use Rattle.writing.specs.CopyIn.{Scanned, SpotFor};
 ghost use Rattle.writing.specs.Insert.{InsertsCore};
 use crate::shift;
+use bits::compare::equal;
+use bits::compare::larger;
 use bits::select::Found;
-use filter::lookup::equal;
 use filter::lookup::quotient;
 use filter::lookup::remainder;
 use filter::runs::first_free;
-use filter::runs::larger;
 use filter::runs::run_start;
+use filter::runs::unrolled;
 use layout::shape::Shape;
 use layout::slot;
 
@@ -41,9 +40,10 @@ pub enum Insertion {
     Refused(u8),
 }
 
+// The place that one copy more of `rem` takes in the run that starts at slot `at`, left from inside once a larger remainder or the run's end is met.
 fn scan(buf: &[u8], shape: Shape, at: u64, rem: u64) -> Stop
     requires { ⌜ (Whole shape (length (now buf))) × (at < slots (shape .qbits)) ⌝ }
-    ensures { λ r. ⌜ Scanned (slots (shape .qbits)) (views (shape .rbits) (le (now (buf .entry)))) at rem r ⌝ }
+    ensures { λ r. ⌜ Scanned (slots (shape .qbits)) (viewsIn shape (now (buf .entry))) at rem r ⌝ }
 {
     let slots = shape.slots();
     let mut k = 0;
@@ -66,14 +66,7 @@ fn scan(buf: &[u8], shape: Shape, at: u64, rem: u64) -> Stop
     stop
 }
 
-// The slot `at`, or a round on from it, whichever is not before x.
-pub fn unrolled(at: u64, x: u64, slots: u64) -> u64
-    requires { ⌜ (at < slots) × (x < slots) × (slots ≤ 2 ^ 59) ⌝ }
-    ensures { λ r. ⌜ Unrolled slots at x r ⌝ }
-{
-    if at < x { at + slots } else { at }
-}
-
+// Where one copy more goes: into a run that it makes, inside the run, or at its end.
 fn find_spot(buf: &[u8], shape: Shape, x: u64, rem: u64) -> Spot
     requires { ⌜ (Whole shape (length (now buf))) × (x < slots (shape .qbits)) ⌝ }
     ensures { λ r. ⌜ SpotFor shape (now (buf .entry)) x rem r ⌝ }

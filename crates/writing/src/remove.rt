@@ -1,24 +1,25 @@
 // One copy fewer of a fingerprint.
 ghost use mathlib.Core.Path.{_≡_};
-ghost use Prim.Native.Nat.{_+_, _-_, _*_, _/_, _%_, _^_, _<_, _≤_, min};
+ghost use Prim.Native.Nat.{_+_, _-_, _^_, _<_, _≤_, min};
 ghost use lib.ListN.{length};
 ghost use Rattle.theory.specs.Shape.{slots, blocks};
 ghost use Rattle.theory.specs.number.Bytes.{le};
-ghost use Rattle.theory.specs.carry.More.{upto};
-ghost use Rattle.theory.specs.layout.Block.{views};
-ghost use Rattle.theory.specs.layout.Removing.{TookOut};
-ghost use Rattle.layout.specs.Whole.{Whole};
-ghost use Rattle.writing.specs.Leaving.{ToldAs, LastSeen, LeavingFor};
-ghost use Rattle.writing.specs.Shifted.{ShiftedFrom, NextCarry, Renews};
+ghost use Rattle.theory.specs.carry.CarryMore.{upto};
+ghost use Rattle.theory.specs.writing.Removing.{TookOut};
+ghost use Rattle.layout.specs.Whole.{Whole, viewsIn};
+ghost use Rattle.writing.specs.CopyOut.{LastEqualAs, LastSeen, GoingFor};
+ghost use Rattle.writing.specs.Shifted.{ShiftedFrom, Renews};
 ghost use Rattle.writing.specs.Remove.{WroteOut, RemovesCore};
-use crate::insert::unrolled;
 use crate::shift;
+use bits::compare::lesser;
 use bits::select::Found;
 use filter::lookup::quotient;
 use filter::lookup::remainder;
-use filter::runs::behind_run;
+use filter::runs::next_carry;
 use filter::runs::offset;
+use filter::runs::past_run;
 use filter::runs::run_start;
+use filter::runs::unrolled;
 use layout::shape::Shape;
 use layout::slot;
 
@@ -28,15 +29,16 @@ pub enum LastEqual {
     Nothing,
 }
 
-// The slots, not taken round the end, of the copy that goes and of the runend bit that goes with it, and what the occupied bit becomes.
-pub struct Place {
+// The copy that goes: its slot and that of the runend bit that goes with it, not taken round the end, and what the occupied bit becomes.
+pub struct GoingCopy {
     pub slot: u64,
     pub bit_slot: u64,
     pub bit: u64,
 }
 
-pub enum Leaving {
-    Copy(Place),
+// Which copy a remove takes: the last equal one, or none.
+pub enum Going {
+    Copy(GoingCopy),
     NoCopy,
 }
 
@@ -47,9 +49,9 @@ pub enum Removal {
     Damaged,
 }
 
-// The answer of a scan: `last` is one more than the last equal place, or 0.
-fn told(last: u64, size: u64) -> LastEqual
-    ensures { λ r. ⌜ ToldAs last size r ⌝ }
+// The answer of a scan of `size` places: `last` is one more than the last equal one, or 0.
+fn as_last_equal(last: u64, size: u64) -> LastEqual
+    ensures { λ r. ⌜ LastEqualAs last size r ⌝ }
 {
     if last == 0 {
         return LastEqual::Nothing;
@@ -57,14 +59,14 @@ fn told(last: u64, size: u64) -> LastEqual
     LastEqual::At(last - 1, size)
 }
 
-// The last remainder equal to `rem` in the run that starts at slot `at`: the scan leaves from inside once the run's end is met, carrying the last equal place found.
+// The last remainder equal to `rem` in the run that starts at slot `at`: the loop is left at the run's end with the last place that was equal.
 fn last_equal(buf: &[u8], shape: Shape, at: u64, rem: u64) -> LastEqual
     requires { ⌜ (Whole shape (length (now buf))) × (at < slots (shape .qbits)) ⌝ }
-    ensures { λ r. ⌜ LastSeen (slots (shape .qbits)) (views (shape .rbits) (le (now (buf .entry)))) at rem r ⌝ }
+    ensures { λ r. ⌜ LastSeen (slots (shape .qbits)) (viewsIn shape (now (buf .entry))) at rem r ⌝ }
 {
     let slots = shape.slots();
     let mut k = 0;
-    // one more than the last equal place, 0 for none
+    // One more than the last equal place, or 0.
     let mut last = 0;
     let seen = loop {
         let s = (at + k) % slots;
@@ -73,19 +75,13 @@ fn last_equal(buf: &[u8], shape: Shape, at: u64, rem: u64) -> LastEqual
             last = k;
         }
         if slot::is_runend(buf, shape, s) == 1 {
-            break told(last, k);
+            break as_last_equal(last, k);
         }
         if k == slots {
-            break told(last, k);
+            break as_last_equal(last, k);
         }
     };
     seen
-}
-
-pub fn lesser(a: u64, b: u64) -> u64
-    ensures { λ r. ⌜ r ≡ min a b ⌝ }
-{
-    if a < b { a } else { b }
 }
 
 // The place of the runend bit that goes: in front of the run's last, which stays the last, or the only one.
@@ -97,19 +93,19 @@ fn bit_place(place: u64, size: u64) -> u64
 }
 
 // Which copy goes: the last equal one of the run, or none.
-fn find_copy(buf: &[u8], shape: Shape, x: u64, rem: u64) -> Leaving
+fn find_copy(buf: &[u8], shape: Shape, x: u64, rem: u64) -> Going
     requires { ⌜ (Whole shape (length (now buf))) × (x < slots (shape .qbits)) ⌝ }
-    ensures { λ r. ⌜ LeavingFor shape (now (buf .entry)) x rem r ⌝ }
+    ensures { λ r. ⌜ GoingFor shape (now (buf .entry)) x rem r ⌝ }
 {
     if slot::is_occupied(buf, shape, x) == 0 {
-        return Leaving::NoCopy;
+        return Going::NoCopy;
     }
     let at = run_start(buf, shape, x);
     let LastEqual::At(place, size) = last_equal(buf, shape, at, rem) else {
-        return Leaving::NoCopy;
+        return Going::NoCopy;
     };
     let first = unrolled(at, x, shape.slots());
-    Leaving::Copy(Place {
+    Going::Copy(GoingCopy {
         slot: first + place,
         bit_slot: first + bit_place(place, size),
         bit: lesser(1, size - 1),
@@ -119,16 +115,14 @@ fn find_copy(buf: &[u8], shape: Shape, x: u64, rem: u64) -> Leaving
 // The last slot that is shifted from slot x on, not taken round the end: from each slot on to the last that its run fills.
 fn last_shifted(buf: &[u8], shape: Shape, x: u64) -> Found
     requires { ⌜ (Whole shape (length (now buf))) × (x < slots (shape .qbits)) ⌝ }
-    ensures { λ r. ⌜ ShiftedFrom (slots (shape .qbits)) (views (shape .rbits) (le (now (buf .entry)))) x r ⌝ }
+    ensures { λ r. ⌜ ShiftedFrom (slots (shape .qbits)) (viewsIn shape (now (buf .entry))) x r ⌝ }
 {
     let slots = shape.slots();
     let mut s = x;
     while s < x + slots {
-        let y = s % slots;
-        let Found::At(t) = behind_run(buf, shape, y, offset(buf, shape, y / 64)) else {
+        let Found::At(gap) = past_run(buf, shape, s) else {
             return Found::Nothing;
         };
-        let gap = t - y;
         if gap == 1 {
             return Found::At(s);
         }
@@ -138,7 +132,7 @@ fn last_shifted(buf: &[u8], shape: Shape, x: u64) -> Found
 }
 
 // The carry o before slot `first`, less one if the slot e that is cleared lies there or behind.
-fn left_over(o: u64, first: u64, e: u64) -> u64
+fn carry_without(o: u64, first: u64, e: u64) -> u64
     ensures { λ r. ⌜ r ≡ o - upto e first ⌝ }
 {
     if o == 0 {
@@ -148,36 +142,20 @@ fn left_over(o: u64, first: u64, e: u64) -> u64
 }
 
 // The copy and its runend bit taken out, what stands behind them up to e moved back by one, and the occupied bit as it becomes.
-fn take(buf: &mut [u8], shape: Shape, x: u64, place: Place, e: u64)
-    requires { ⌜ (Whole shape (length (now buf))) × (x < slots (shape .qbits)) × (place .bit < 2) × (x ≤ place .«bit_slot») × (place .«bit_slot» ≤ place .slot) × (place .slot ≤ e) × (e < x + slots (shape .qbits)) ⌝ }
-    ensures { λ r. ⌜ TookOut (shape .rbits) (slots (shape .qbits)) (blocks (shape .qbits)) x (place .slot) (place .«bit_slot») e (place .bit) (le (now (buf .entry))) (le (now (buf .exit))) ⌝ }
+fn take(buf: &mut [u8], shape: Shape, x: u64, copy: GoingCopy, e: u64)
+    requires { ⌜ (Whole shape (length (now buf))) × (x < slots (shape .qbits)) × (copy .bit < 2) × (x ≤ copy .«bit_slot») × (copy .«bit_slot» ≤ copy .slot) × (copy .slot ≤ e) × (e < x + slots (shape .qbits)) ⌝ }
+    ensures { λ r. ⌜ TookOut (shape .rbits) (slots (shape .qbits)) (blocks (shape .qbits)) x (copy .slot) (copy .«bit_slot») e (copy .bit) (le (now (buf .entry))) (le (now (buf .exit))) ⌝ }
 {
     shift::take_out(
         buf,
         shape,
         slot::REMAINDERS,
         shape.rbits as u64,
-        place.slot,
+        copy.slot,
         e,
     );
-    shift::take_out(buf, shape, slot::RUNENDS, 1, place.bit_slot, e);
-    slot::set_occupied(buf, shape, x, place.bit);
-}
-
-// The carry before the block behind block b, told by the carry o before b: that far the last run of b goes past its last slot.
-fn next_carry(buf: &[u8], shape: Shape, b: u64, o: u64) -> Found
-    requires { ⌜ (Whole shape (length (now buf))) × (b < blocks (shape .qbits)) × (o ≤ 2 ^ 60) ⌝ }
-    ensures { λ r. ⌜ NextCarry (slots (shape .qbits)) (views (shape .rbits) (le (now (buf .entry)))) b o r ⌝ }
-{
-    let first = 64 * b;
-    let Found::At(s) = behind_run(buf, shape, first + 63, o) else {
-        return Found::Nothing;
-    };
-    let next = s - (first + 64);
-    if shape.slots() < next {
-        return Found::Nothing;
-    }
-    Found::At(next)
+    shift::take_out(buf, shape, slot::RUNENDS, 1, copy.bit_slot, e);
+    slot::set_occupied(buf, shape, x, copy.bit);
 }
 
 // The offsets of the k blocks behind block a, told anew a block at a time from the carry o before block a: a stored 255 does not say whether it falls.
@@ -200,31 +178,31 @@ fn renew_offsets(buf: &mut [u8], shape: Shape, a: u64, k: u64, o: u64) -> Remova
 }
 
 // One copy fewer, written: the carry before the block of x is told while its byte still tells it, the cells are moved, and the offsets behind told anew from it.
-fn write_out(buf: &mut [u8], shape: Shape, x: u64, place: Place, e: u64) -> Removal
-    requires { ⌜ (Whole shape (length (now buf))) × (x < slots (shape .qbits)) × (place .bit < 2) × (x ≤ place .«bit_slot») × (place .«bit_slot» ≤ place .slot) × (place .slot ≤ e) × (e < x + slots (shape .qbits)) ⌝ }
-    ensures { λ r. ⌜ WroteOut (shape .rbits) (slots (shape .qbits)) (blocks (shape .qbits)) x place e (le (now (buf .entry))) r (le (now (buf .exit))) ⌝ }
+fn write_out(buf: &mut [u8], shape: Shape, x: u64, copy: GoingCopy, e: u64) -> Removal
+    requires { ⌜ (Whole shape (length (now buf))) × (x < slots (shape .qbits)) × (copy .bit < 2) × (x ≤ copy .«bit_slot») × (copy .«bit_slot» ≤ copy .slot) × (copy .slot ≤ e) × (e < x + slots (shape .qbits)) ⌝ }
+    ensures { λ r. ⌜ WroteOut (shape .rbits) (slots (shape .qbits)) (blocks (shape .qbits)) x copy e (le (now (buf .entry))) r (le (now (buf .exit))) ⌝ }
 {
     let b = x / 64;
-    let o = left_over(offset(buf, shape, b), 64 * b + shape.slots(), e);
-    take(buf, shape, x, place, e);
+    let o = carry_without(offset(buf, shape, b), 64 * b + shape.slots(), e);
+    take(buf, shape, x, copy, e);
     renew_offsets(buf, shape, b, e / 64 - b, o)
 }
 
-// The rule of remove: no change if absent, else one copy fewer.
+// The rule of remove: one copy fewer of what is held; of what is not, nothing.
 pub fn remove_core(buf: &mut [u8], shape: Shape, hash: u64) -> Removal
     requires { ⌜ Whole shape (length (now buf)) ⌝ }
     ensures { λ r. ⌜ RemovesCore shape hash (now (buf .entry)) r (now (buf .exit)) ⌝ }
 {
     let x = quotient(shape, hash);
     let rem = remainder(shape, hash);
-    let Leaving::Copy(place) = find_copy(buf, shape, x, rem) else {
+    let Going::Copy(copy) = find_copy(buf, shape, x, rem) else {
         return Removal::Absent;
     };
     let Found::At(e) = last_shifted(buf, shape, x) else {
         return Removal::Damaged;
     };
-    if e < place.slot {
+    if e < copy.slot {
         return Removal::Damaged;
     }
-    write_out(buf, shape, x, place, e)
+    write_out(buf, shape, x, copy, e)
 }

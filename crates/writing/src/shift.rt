@@ -1,12 +1,12 @@
 // Cells of an area moved by one slot, round the end; offset bytes counted up.
 ghost use mathlib.Core.Path.{_≡_};
-ghost use Prim.Native.Nat.{ℕ, _+_, _*_, _/_, _^_, _<_, _≤_, min};
+ghost use Prim.Native.Nat.{_+_, _^_, _<_, _≤_, min};
 ghost use lib.ListN.{length};
 ghost use Rattle.theory.specs.Shape.{slots, blocks};
 ghost use Rattle.theory.specs.number.Bytes.{le};
-ghost use Rattle.theory.specs.layout.Block.{Area};
-ghost use Rattle.theory.specs.layout.PutIn.{PutIn, TakenOut};
-ghost use Rattle.theory.specs.layout.Bump.{bump};
+ghost use Rattle.theory.specs.images.Block.{Area};
+ghost use Rattle.theory.specs.writing.PutIn.{PutIn, TakenOut};
+ghost use Rattle.theory.specs.writing.RaisedOffsets.{bump};
 ghost use Rattle.layout.specs.Whole.{Whole};
 use layout::shape::Shape;
 use layout::slot;

@@ -1,17 +1,16 @@
 // Insert and remove, checked and quick: thin shells over one core each.
 ghost use mathlib.Core.Path.{_≡_};
-ghost use Rattle.layout.specs.Verdicts.{lowestDue};
-ghost use Prim.Native.Nat.{_-_};
+ghost use Rattle.layout.specs.Records.{lowestDue};
 ghost use Rattle.writing.specs.Writing.{Insert, InsertQuick, InsertWorked, Remove, RemoveQuick, RemoveWorked};
 use crate::insert::Insertion;
 use crate::insert::insert_core;
 use crate::remove::Removal;
 use crate::remove::remove_core;
+use bits::compare::over;
 use layout::check::Verdict;
 use layout::check::check;
 use layout::numbers::Numbers;
 use layout::numbers::number_due;
-use layout::shape::Shape;
 
 // The answer of an insert with the record afterwards; or refused.
 pub enum Inserted {
@@ -24,26 +23,15 @@ fn insert_worked(buf: &mut [u8], n: Numbers, hash: u64, max_count: u64) -> Inser
     requires { ⌜ lowestDue n (now buf) ≡ 0 ⌝ }
     ensures { λ r. ⌜ InsertWorked n hash «max_count» (now (buf .entry)) r (now (buf .exit)) ⌝ }
 {
-    let shape = Shape {
-        qbits: n.qbits,
-        rbits: n.rbits,
-    };
-    let done = insert_core(buf, shape, n.len, hash, max_count);
+    let done = insert_core(buf, n.shape(), n.len, hash, max_count);
     match done {
         Insertion::Enough(c) => Inserted::Counted(c, n),
-        Insertion::Added(m) => {
-            let more = Numbers {
-                len: n.len + 1,
-                qbits: n.qbits,
-                rbits: n.rbits,
-                max_qbits: n.max_qbits,
-            };
-            Inserted::Counted(m, more)
-        }
+        Insertion::Added(m) => Inserted::Counted(m, n.with_len(n.len + 1)),
         Insertion::Refused(k) => Inserted::Refused(k),
     }
 }
 
+// One copy more of the fingerprint of a hash, if fewer than max(1, max_count) are held; the answer is the smaller of the two. The whole buffer is checked first.
 pub fn insert_fingerprint_counting(
     buf: &mut [u8],
     n: Numbers,
@@ -59,6 +47,7 @@ pub fn insert_fingerprint_counting(
     insert_worked(buf, n, hash, max_count)
 }
 
+// The same without the check: only numbers 1 to 5 are asked first.
 pub fn insert_fingerprint_counting_quick(
     buf: &mut [u8],
     n: Numbers,
@@ -81,38 +70,20 @@ pub enum Removed {
     Refused(u8),
 }
 
-// One less; a damaged buffer may have a copy where len is 0.
-fn one_less(len: u64) -> u64
-    ensures { λ r. ⌜ r ≡ len - 1 ⌝ }
-{
-    if len == 0 { 0 } else { len - 1 }
-}
-
 // The core of both removes, on numbers that passed 1 to 5.
 fn remove_worked(buf: &mut [u8], n: Numbers, hash: u64) -> Removed
     requires { ⌜ lowestDue n (now buf) ≡ 0 ⌝ }
     ensures { λ r. ⌜ RemoveWorked n hash (now (buf .entry)) r (now (buf .exit)) ⌝ }
 {
-    let shape = Shape {
-        qbits: n.qbits,
-        rbits: n.rbits,
-    };
-    let done = remove_core(buf, shape, hash);
+    let done = remove_core(buf, n.shape(), hash);
     match done {
-        Removal::Gone => {
-            let fewer = Numbers {
-                len: one_less(n.len),
-                qbits: n.qbits,
-                rbits: n.rbits,
-                max_qbits: n.max_qbits,
-            };
-            Removed::Gone(fewer)
-        }
+        Removal::Gone => { Removed::Gone(n.with_len(over(n.len, 1))) }
         Removal::Absent => Removed::Absent,
         Removal::Damaged => Removed::Refused(6),
     }
 }
 
+// One copy fewer of the fingerprint of a hash, if it is held: the whole buffer is checked first.
 pub fn remove_fingerprint(buf: &mut [u8], n: Numbers, hash: u64) -> Removed
     ensures { λ r. ⌜ Remove n hash (now (buf .entry)) r (now (buf .exit)) ⌝ }
 {
@@ -123,6 +94,7 @@ pub fn remove_fingerprint(buf: &mut [u8], n: Numbers, hash: u64) -> Removed
     remove_worked(buf, n, hash)
 }
 
+// The same without the check: only numbers 1 to 5 are asked first.
 pub fn remove_fingerprint_quick(buf: &mut [u8], n: Numbers, hash: u64) -> Removed
     ensures { λ r. ⌜ RemoveQuick n hash (now (buf .entry)) r (now (buf .exit)) ⌝ }
 {

@@ -1,24 +1,11 @@
-// Tests with exact numbers as answers: a loop over the slots then has no branch, neither in its proof nor, compiled, in its code.
+// The tests of a slot, with 1 for one that fails and 0 for one that passes.
 ghost use mathlib.Core.Path.{_≡_};
-ghost use Prim.Native.Nat.{_+_, _-_, _^_, _<_, min};
+ghost use Prim.Native.Nat.{_+_, _^_, _<_, min};
 ghost use Rattle.theory.specs.check.Step.{fault, differ};
 ghost use Rattle.theory.specs.check.Loops.{most};
+use bits::compare::below;
 
-// a less b, 0 if b is more.
-pub fn over(a: u64, b: u64) -> u64
-    ensures { λ r. ⌜ r ≡ a - b ⌝ }
-{
-    if a < b { 0 } else { a - b }
-}
-
-// 1 if a is below b.
-pub fn below(a: u64, b: u64) -> u64
-    ensures { λ r. ⌜ r ≡ min 1 (b - a) ⌝ }
-{
-    if a < b { 1 } else { 0 }
-}
-
-// 1 if one of the two is not 0.
+// 1 if one of the two is not 0, else 0.
 pub fn either(a: u64, b: u64) -> u64
     ensures { λ r. ⌜ r ≡ min 1 (a + b) ⌝ }
 {
@@ -28,6 +15,7 @@ pub fn either(a: u64, b: u64) -> u64
     if 0 < b { 1 } else { 0 }
 }
 
+// 1 if the two are not equal, else 0.
 pub fn differs(a: u64, b: u64) -> u64
     ensures { λ r. ⌜ r ≡ min 1 (differ a b) ⌝ }
 {

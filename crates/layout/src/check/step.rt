@@ -6,7 +6,7 @@ ghost use lib.ListN.{length};
 ghost use Rattle.theory.specs.Shape.{slots, blocks, Widths};
 ghost use Rattle.theory.specs.number.Bytes.{le};
 ghost use Rattle.theory.specs.number.Field.{field};
-ghost use Rattle.theory.specs.layout.Block.{tailAt};
+ghost use Rattle.theory.specs.images.Block.{tailAt};
 ghost use Rattle.theory.specs.check.Queue.{dist};
 ghost use Rattle.theory.specs.check.Step.{begin, blockFault, first-round, second-round};
 ghost use Rattle.theory.specs.check.Buffer.{stepOn};
@@ -14,10 +14,10 @@ ghost use Rattle.layout.specs.Whole.{Whole};
 ghost use Rattle.layout.specs.Walk.{cur, sees, Fits};
 use crate::check::flag::differs;
 use crate::check::flag::either;
-use crate::check::flag::over;
 use crate::check::flag::slot_fails;
 use crate::shape::Shape;
 use crate::slot;
+use bits::compare::over;
 
 // Where the check stands: the blocks passed in both rounds, the runends owed in the first, the runs pending, and in the second the used slots and
 // whether a test failed.
@@ -76,7 +76,7 @@ fn around(shape: Shape, b: u64, i: u64) -> u64
     (64 * b + i) % shape.slots()
 }
 
-// The runend bit that stands there, and the remainder.
+// The runend bit that stands there.
 fn runend_on(buf: &[u8], shape: Shape, b: u64, i: u64) -> u64
     requires { ⌜ (Whole shape (length (now buf))) × (b < blocks (shape .qbits)) × (i < 320) ⌝ }
     ensures { λ r. ⌜ (r ≡ sees shape (now (buf .entry)) b .runend i) × (r < 2) ⌝ }
@@ -84,6 +84,7 @@ fn runend_on(buf: &[u8], shape: Shape, b: u64, i: u64) -> u64
     slot::is_runend(buf, shape, around(shape, b, i))
 }
 
+// The remainder that stands there.
 fn remainder_on(buf: &[u8], shape: Shape, b: u64, i: u64) -> u64
     requires { ⌜ (Whole shape (length (now buf))) × (b < blocks (shape .qbits)) × (i < 320) ⌝ }
     ensures { λ r. ⌜ r ≡ sees shape (now (buf .entry)) b .remainder i ⌝ }

@@ -1,11 +1,11 @@
--- The carry of document 01, over all of ℕ: `n` is periodic, and a quotient's run stands from `start x` on, to be read modulo m at the very end.
+-- The carry (docs/RULES.md, "The image of a holding"), over all of ℕ: `n` is periodic, and a quotient's run stands from `start x` on, to be read modulo m at the very end.
 -- Assumes nothing.
 use Prim.Native.Nat.{ℕ, zero, suc, _+_, _-_, _*_, _/_, _%_, _≤_, _<_, max}
 use mathlib.Core.Path.{_≡_, refl, sym, ap, _∙_}
 use mathlib.Core.Logic.{_⊎_, inl, inr}
 use native.Mathlib.Omega.{arith}
-use native.Mathlib.Decide.{decLe, decLt, ℕ-discrete}
-use native.Mathlib.Nat.{add-zero, add-suc, suc-add, zero-add, add-comm, add-assoc, div-add-mod', mul-le-mul-right, mul-le-mul-left, eq-zero-or-pos, le-of-suc-le-suc}
+use native.Mathlib.Decide.{decLt, ℕ-discrete}
+use native.Mathlib.Nat.{add-zero, add-suc, suc-add, zero-add, add-comm, div-add-mod', mul-le-mul-right, mul-le-mul-left, eq-zero-or-pos}
 use Rattle.theory.specs.tools.Total.{total, total-add, total-same}
 use Rattle.theory.specs.Image.{walk, carry, start}
 use Rattle.theory.specs.carry.Walk.{walk-closes, walk-again, walk-add}

@@ -1,10 +1,9 @@
 -- The carry of a walk over quotients: what the runs so far spill past the slot that is reached. `n x` is how many fingerprints have the quotient x.
 -- Assumes nothing.
-use Prim.Native.Nat.{ℕ, zero, suc, _+_, _-_, _*_, _≤_, _<_, max}
-use mathlib.Core.Path.{_≡_, refl, sym, ap, _∙_}
-use mathlib.Core.Logic.{_⊎_, inl, inr}
+use Prim.Native.Nat.{ℕ, zero, suc, _+_, _-_, _<_, max}
+use mathlib.Core.Path.{_≡_}
 use native.Mathlib.Omega.{arith}
-use native.Mathlib.Nat.{add-zero, add-suc, suc-add, zero-add}
+use native.Mathlib.Nat.{add-zero, add-suc}
 use Rattle.theory.specs.tools.Total.{total}
 use Rattle.theory.specs.Image.{walk}
 
@@ -19,12 +18,6 @@ walk-closes n c k few e = omega (arith, walk-max n c k)
 
 pub walk-again : (n : ℕ → ℕ) (k : ℕ) → total n k < k → walk n (walk n 0 k) k ≡ walk n 0 k
 walk-again n k few = omega (arith, walk-max n (walk n 0 k) k)
-
--- only the n met matter
-pub walk-same : (n n′ : ℕ → ℕ) (c k : ℕ) → ((i : ℕ) → i < k → n i ≡ n′ i) → walk n c k ≡ walk n′ c k
-unfolding walk
-walk-same n n′ c zero h = refl
-walk-same n n′ c (suc k) h = omega (arith, walk-same n n′ c k (λ i l. h i (omega arith)), h k (omega arith))
 
 -- a walk of y + k steps is a walk of y steps and one of k
 pub walk-add : (n : ℕ → ℕ) (c y k : ℕ) → walk n c (y + k) ≡ walk (λ i. n (y + i)) (walk n c y) k

@@ -1,4 +1,4 @@
--- A buffer that the queue accepts is an image: its reading (`Reading`) passes, from the slot where the runs that go past the last slot end.
+-- A buffer that the queue accepts is an image: its reading (ReadBack) passes, from the slot where the runs that go past the last slot end.
 -- Assumes nothing.
 use Prim.Native.Nat.{ℕ, zero, suc, _+_, _-_, _*_, _%_, _≤_, _<_, max}
 use mathlib.Core.Path.{_≡_, sym, ap, _∙_}
@@ -14,9 +14,9 @@ use Rattle.theory.specs.Holding.{Holding}
 use Rattle.theory.specs.list.Runs.{flat, length-flat}
 use Rattle.theory.specs.Image.{Views}
 use Rattle.theory.specs.carry.Carry.{per-all}
-use Rattle.theory.specs.layout.Views.{Image}
+use Rattle.theory.specs.images.ByViews.{Image}
 use Rattle.theory.specs.check.Queue.{busy, ring, wrapped, queue, Accepted, pend-suc, pend-zero, balance, owed-le, pend-more, total-round, Reach, reach-unique, reach-found, dist-reach}
-use Rattle.theory.specs.check.Reading.{Bits, Reads, gap, gap-le, gap-before, len, len-some, len-none, pos, pos-zero, pos-suc, size, read, read-length, reads-image}
+use Rattle.theory.specs.check.ReadBack.{Bits, Reads, gap, gap-le, gap-before, len, len-some, len-none, pos, pos-zero, pos-suc, size, read, read-length, reads-image}
 
 pub gap-found : (E : ℕ → ℕ) (k p : ℕ) → gap E k p < k → 0 < E (p + gap E k p)
 unfolding gap choose

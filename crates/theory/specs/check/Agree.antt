@@ -1,4 +1,4 @@
--- Request Six over bytes: buffers that agree on the bytes that a step may look at give the same cursor.
+-- What a step of the check looks at, over bytes: buffers that agree on the bytes that a step may look at give the same cursor.
 -- Assumes nothing.
 use Prim.Native.Nat.{ℕ, suc, _+_, _*_, _/_, _%_, _≤_, _<_}
 use mathlib.Core.Path.{_≡_, sym, ap, _∙_}
@@ -10,7 +10,7 @@ use lib.ListN.{take, drop}
 use Rattle.theory.specs.number.Bytes.{le-part, le}
 use Rattle.theory.specs.number.Field.{field-field, field}
 use Rattle.theory.specs.Shape.{blocks}
-use Rattle.theory.specs.layout.Block.{block, views, offsetAt, spot, runends, remainders, Area, occupieds, tailAt, cellAt}
+use Rattle.theory.specs.images.Block.{block, views, offsetAt, spot, runends, remainders, Area, occupieds, tailAt, cellAt}
 use Rattle.theory.specs.check.Buffer.{stepsOn, stepOn}
 use Rattle.theory.specs.check.Local.{steps-prefix, BlockSame, steps-end, step-local}
 use Rattle.theory.specs.check.Step.{begin, Cursor}
@@ -56,14 +56,14 @@ same-tail : (q r : ℕ) (s t : List ℕ) → tailBytes q r s ≡ tailBytes q r t
 unfolding tailAt
 same-tail q r s t e = sym (le-part 8 (block r (blocks q)) s) ∙ ap le e ∙ le-part 8 (block r (blocks q)) t
 
--- ---- request Six over bytes, for two buffers with the same numbers
+-- ---- two buffers with the same numbers
 -- if they agree on their first k blocks, they give the same cursor after k
 pub bytes-prefix : (q r k : ℕ) (s t : List ℕ) → k ≤ blocks q → ((b : ℕ) → b < k → blockBytes r b s ≡ blockBytes r b t)
     → stepsOn q r s k begin ≡ stepsOn q r t k begin
 bytes-prefix q r k s t l h =
     steps-prefix (blocks q) (views r (le s)) (views r (le t)) (tailAt r (blocks q) (le s)) (tailAt r (blocks q) (le t)) k l (λ b c. same-block r b s t (h b c))
 
--- if they agree on the block that it passes, the four after it (round the end) and the last eight bytes, a step gives the same cursor from any one
+-- if they are equal in the block passed, in the next four, round the end, and in the last eight bytes, a step gives the same cursor from any one
 pub bytes-local : (q r : ℕ) (s t : List ℕ) (c : Cursor) → 0 < blocks q
     → ((b : ℕ) → b < blocks q → (c .passed ≡ b) ⊎ (c .passed ≡ blocks q + b) → (d : ℕ) → d < 5 → blockBytes r ((b + d) % blocks q) s ≡ blockBytes r ((b + d) % blocks q) t)
     → tailBytes q r s ≡ tailBytes q r t → stepOn q r s c ≡ stepOn q r t c

@@ -8,7 +8,7 @@ use native.Mathlib.Nat.{mod-eq-of-lt}
 use Rattle.theory.specs.number.Bytes.{le}
 use Rattle.theory.specs.number.Field.{field}
 use Rattle.theory.specs.Shape.{blocks}
-use Rattle.theory.specs.layout.Block.{views, offsetAt, tailAt, cellAt, word-bit, wordAt}
+use Rattle.theory.specs.images.Block.{views, offsetAt, tailAt, cellAt, word-bit, wordAt}
 use Rattle.theory.specs.check.Queue.{dist}
 use Rattle.theory.specs.check.Step.{steps, sight, Sight, Cursor, step, first-round, first-same, blockFault, differ, step-first, step-second, second-round, step-end}
 

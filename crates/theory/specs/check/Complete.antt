@@ -13,9 +13,9 @@ use Rattle.theory.specs.Holding.{run, Holding}
 use Rattle.theory.specs.list.Runs.{runs-total, ascending-at}
 use Rattle.theory.specs.Image.{carry, start, occ, Views, runAt, many, restAt}
 use Rattle.theory.specs.carry.Carry.{Round, Free, FirstFree, first-free, start-carry, start-le, start-per, carry-per, free-start, free-slots, cover, per-all}
-use Rattle.theory.specs.layout.Rank.{last-end, occ-ap, occ-none, rank-start}
-use Rattle.theory.specs.layout.RunEnd.{shifted-end, pending, pending-met, count-free}
-use Rattle.theory.specs.layout.Views.{Image, many-round, many-at}
+use Rattle.theory.specs.reading.RunendRank.{last-end, occ-ap, occ-none, rank-start}
+use Rattle.theory.specs.reading.RunEnd.{shifted-end, pending, pending-met, count-free}
+use Rattle.theory.specs.images.ByViews.{Image, many-round, many-at}
 use Rattle.theory.specs.check.Decode.{Decoded, image-decoded}
 use Rattle.theory.specs.check.Queue.{owed, busy, ring, wrapped, queue, Accepted, pend-suc, pend-zero, balance, owed-mono, total-round, Reach, dist-reach}
 

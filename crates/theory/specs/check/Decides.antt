@@ -1,4 +1,4 @@
--- The check decides soundness: the cursor's answer after two rounds says whether the buffer is the image of a holding of len fingerprints.
+-- The check decides soundness: the cursor's answer after two rounds says whether the bytes are the image of a holding that has len fingerprints.
 -- Assumes nothing.
 use Prim.Native.Nat.{ℕ, _+_, _*_, _^_, _≤_, _<_}
 use mathlib.Core.Path.{_≡_}
@@ -11,15 +11,15 @@ use Rattle.theory.specs.number.Field.{field-lt}
 use Rattle.theory.specs.Holding.{Holding}
 use Rattle.theory.specs.Shape.{Widths, blocks, bytes, slots}
 use Rattle.theory.specs.Image.{Views}
-use Rattle.theory.specs.layout.Block.{views, spot, tailAt, cellAt}
-use Rattle.theory.specs.layout.Images.{image-tail}
-use Rattle.theory.specs.layout.IsImage.{image-is, is-image}
-use Rattle.theory.specs.layout.Sizes.{slots-blocks}
-use Rattle.theory.specs.layout.Views.{Image}
+use Rattle.theory.specs.images.Block.{views, spot, tailAt, cellAt}
+use Rattle.theory.specs.images.ImageBytes.{image-tail}
+use Rattle.theory.specs.images.IsImage.{image-is, is-image}
+use Rattle.theory.specs.images.Sizes.{slots-blocks}
+use Rattle.theory.specs.images.ByViews.{Image}
 use Rattle.theory.specs.check.Accepts.{accepted-image}
 use Rattle.theory.specs.check.Buffer.{stepsOn}
 use Rattle.theory.specs.check.Complete.{image-accepted}
-use Rattle.theory.specs.check.Reading.{Bits}
+use Rattle.theory.specs.check.ReadBack.{Bits}
 use Rattle.theory.specs.check.Rounds.{answer-accepted, accepted-answer}
 use Rattle.theory.specs.check.Step.{steps, begin, Answer}
 use Rattle.theory.specs.Sound.{Holds}

@@ -14,9 +14,9 @@ use Rattle.theory.specs.list.Runs.{flat, length-flat, runs-total, run-un
 use Rattle.theory.specs.Image.{carry, start, walk, occ, last, Views, runAt, many, restAt}
 use Rattle.theory.specs.carry.Carry.{Round, Free, start-suc, start-carry, start-per}
 use Rattle.theory.specs.carry.Walk.{walk-closes}
-use Rattle.theory.specs.layout.Cells.{Filled, filled-round}
-use Rattle.theory.specs.layout.Rank.{last-inner, last-end}
-use Rattle.theory.specs.layout.Views.{Image, many-round, many-at}
+use Rattle.theory.specs.images.Filled.{Filled, filled-round}
+use Rattle.theory.specs.reading.RunendRank.{last-inner, last-end}
+use Rattle.theory.specs.images.ByViews.{Image, many-round, many-at}
 
 -- `runs x` are the remainders read for the quotient x, from the slot `pos x` on
 pub record Decoded (m R : ℕ) (v : Views) (runs : ℕ → List ℕ) (pos : ℕ → ℕ) : Type 0 where

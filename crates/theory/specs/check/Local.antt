@@ -1,4 +1,4 @@
--- Request Six, over the views: what a step may look at. Nothing is settled ahead of its block, and nothing is left for the end.
+-- What a step of the check looks at, over the views. Nothing is settled ahead of its block, and nothing is left for the end.
 -- Assumes nothing.
 use Prim.Native.Nat.{ℕ, zero, suc, _+_, _-_, _*_, _/_, _%_, _≤_, _<_, min}
 use mathlib.Core.Path.{_≡_, refl, sym, ap, ap₂, _∙_}
@@ -42,7 +42,7 @@ second-same s t c e = cursor-ext _ _ _ _ _ _ _ _ _ _ refl refl (pends 64 (omega 
         ≡ min 1 (c .bad + total (λ i. fault (pend (t .occupied) (t .runend) (c .pending) i) (t .occupied i) (t .runend i) (t .remainder i) (t .remainder (suc i))) 64 + blockFault t (c .pending))
     bads = rw (wrong, far, e .offset, e .tail)
 
--- Request Six: from one cursor, a budget of 1 gives the same cursor on two buffers that agree on the block it passes, the four after it and the last eight bytes.
+-- from one cursor, a step gives the same cursor on two buffers that are equal in the block passed, in the next four and in the last eight bytes
 pub step-near : (B : ℕ) (v v′ : Views) (tail tail′ : ℕ) (c : Cursor)
     → (c .passed < B → SameNear (sight B v tail (c .passed)) (sight B v′ tail′ (c .passed)))
     → (B ≤ c .passed → c .passed < B + B → SameNear (sight B v tail (c .passed - B)) (sight B v′ tail′ (c .passed - B)))
@@ -91,7 +91,7 @@ module _ (B : ℕ) (v v′ : Views) (tail tail′ : ℕ) where
           runend : (i : ℕ) → i < 64 → v .runend ((64 * (steps B v tail k begin) .passed + i) % (64 * B)) ≡ v′ .runend ((64 * (steps B v tail k begin) .passed + i) % (64 * B))
           runend i b = ap (v .runend) (at i b) ∙ s .runend i b ∙ sym (ap (v′ .runend) (at i b))
 
-  -- a step sees its block, the four after it (round the end) and the last eight bytes
+  -- a step sees its block, the next four, round the end, and the last eight bytes
   near : (b : ℕ) → 0 < B → ((d : ℕ) → d < 5 → BlockSame v v′ ((b + d) % B)) → (b < B) → tail ≡ tail′ → SameNear (sight B v tail b) (sight B v′ tail′ b)
   unfolding sight
   near b p h l t = record {

@@ -40,9 +40,6 @@ dist-shift E y zero p t = refl
 dist-shift E y (suc k) p t = ap (λ z. choose (decLe 1 p) (suc z) 0) (dist-shift E y k (p - E (y + t)) (suc t) ∙ ap (dist E k (p - E (y + t))) (add-suc y t))
 
 module _ (B : ℕ) (v : Views) (tail : ℕ) where
-  abbrev m : ℕ
-  m = 64 * B
-
   abbrev O : ℕ → ℕ
   O = ring (64 * B) (v .occupied)
 

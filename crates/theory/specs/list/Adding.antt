@@ -8,7 +8,7 @@ use native.Mathlib.Decide.{ℕ-discrete}
 use lib.ListN.{length}
 use Rattle.theory.specs.Holding.{more, copies}
 use Rattle.theory.specs.Changing.{upTo}
-use Rattle.theory.specs.list.Changed.{up-to-by}
+use Rattle.theory.specs.list.RuleCases.{up-to-by}
 use Rattle.theory.specs.list.Copies.{copies-eq, copies-here, copies-nil, copies-more-here, copies-more-other, copies-other}
 use Rattle.theory.specs.list.More.{more-length}
 use Rattle.theory.specs.Joining.{added, addedOnce, joined}
@@ -78,7 +78,7 @@ once-length a (f ∷ b) =
     (omega arith, omega arith)
 
 -- ---- both kinds of merge at equal widths
--- with duplicates, multiplicities add; without, each fingerprint held by either is held once
+-- copies are added up, or there is one of each
 pub copies-kept : (keep g : ℕ) (a b : List ℕ) → copies g (joined (suc keep) a b) ≡ copies g a + copies g b
 unfolding joined
 copies-kept keep g a b = copies-added g a b

@@ -1,12 +1,11 @@
 -- How many copies of a fingerprint are held; the multiplicities tell the holding. Assumes nothing.
-use Prim.Native.Nat.{ℕ, zero, suc, _+_, _-_, _*_, _/_, _%_, _≤_, _<_, min, max}
-use mathlib.Core.Path.{_≡_, refl, sym, ap, ap₂, _∙_}
-use mathlib.Core.Logic.{_⊎_, inl, inr, _≢_}
-use mathlib.Core.List.{List, [], _∷_, _++_, map}
+use Prim.Native.Nat.{ℕ, suc, _≤_, _<_}
+use mathlib.Core.Path.{_≡_, refl, sym, ap₂, _∙_}
+use mathlib.Core.Logic.{_≢_}
+use mathlib.Core.List.{List, [], _∷_}
 use native.Mathlib.Omega.{arith}
 use native.Mathlib.Decide.{decLe, decLt, ℕ-discrete}
-use native.Mathlib.Nat.{add-zero, add-suc, suc-add, zero-add, add-comm, eq-zero-or-pos, le-div-iff-mul-le, div-lt-iff-lt-mul, div-add-mod', mod-lt, le-refl, le-trans}
-use lib.ListN.{length, getD, length-append, length-map}
+use lib.ListN.{length}
 use Rattle.theory.specs.tools.Choose.{choose-by, choose-no, choose-yes}
 use Rattle.theory.specs.Holding.{copies, more, Ascending, Least}
 use Rattle.theory.specs.list.More.{least-mono}

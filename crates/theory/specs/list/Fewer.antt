@@ -1,12 +1,10 @@
 -- One copy fewer, and one copy more after it. Assumes nothing.
-use Prim.Native.Nat.{ℕ, zero, suc, _+_, _-_, _*_, _/_, _%_, _≤_, _<_, min, max}
-use mathlib.Core.Path.{_≡_, refl, sym, ap, ap₂, _∙_}
-use mathlib.Core.Logic.{_⊎_, inl, inr, _≢_}
-use mathlib.Core.List.{List, [], _∷_, _++_, map}
+use Prim.Native.Nat.{ℕ, suc, _<_}
+use mathlib.Core.Path.{_≡_, refl, sym, _∙_}
+use mathlib.Core.Logic.{_≢_}
+use mathlib.Core.List.{List, [], _∷_}
 use native.Mathlib.Omega.{arith}
-use native.Mathlib.Decide.{decLe, decLt, ℕ-discrete}
-use native.Mathlib.Nat.{add-zero, add-suc, suc-add, zero-add, add-comm, eq-zero-or-pos, le-div-iff-mul-le, div-lt-iff-lt-mul, div-add-mod', mod-lt, le-refl, le-trans}
-use lib.ListN.{length, getD, length-append, length-map}
+use native.Mathlib.Decide.{ℕ-discrete}
 use Rattle.theory.specs.tools.Choose.{choose-by, choose-no, choose, choose-yes}
 use Rattle.theory.specs.Holding.{copies, more, fewer, Ascending, Least}
 use Rattle.theory.specs.list.Copies.{copies-more-here, copies-tell, copies-more-other, copies-other, copies-nil, copies-eq}

@@ -9,7 +9,7 @@ use lib.ListN.{length, getD, take}
 use lib.Seq.{take-length}
 use Rattle.theory.specs.Holding.{copies, Ascending}
 use Rattle.theory.specs.Changing.{upTo}
-use Rattle.theory.specs.list.Changed.{up-to-by}
+use Rattle.theory.specs.list.RuleCases.{up-to-by}
 use Rattle.theory.specs.list.Adding.{copies-once, once-length}
 use Rattle.theory.specs.list.Copies.{copies-nil, copies-eq, copies-other}
 use Rattle.theory.specs.list.More.{more-length}

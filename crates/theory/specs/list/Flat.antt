@@ -1,14 +1,13 @@
 -- Runs, one list of remainders for each quotient, make a holding, and its runs are those again.
 -- Assumes nothing.
-use Prim.Native.Nat.{ℕ, zero, suc, _+_, _-_, _*_, _/_, _%_, _≤_, _<_, min, max}
-use mathlib.Core.Path.{_≡_, refl, sym, ap, ap₂, _∙_}
-use mathlib.Core.Logic.{_⊎_, inl, inr, _≢_}
+use Prim.Native.Nat.{ℕ, zero, suc, _+_, _*_, _/_, _%_, _≤_, _<_}
+use mathlib.Core.Path.{_≡_, refl, sym, ap₂, _∙_}
+use mathlib.Core.Logic.{_≢_}
 use mathlib.Core.List.{List, [], _∷_, _++_, map, append-nil}
 use native.Mathlib.Omega.{arith}
-use native.Mathlib.Decide.{decLe, decLt, ℕ-discrete}
-use native.Mathlib.Nat.{le-trans, mul-le-mul-right}
+use native.Mathlib.Decide.{ℕ-discrete}
+use native.Mathlib.Nat.{le-trans}
 use lib.Arith.{digits-div, digits-mod}
-use lib.ListN.{length, getD}
 use Rattle.theory.specs.tools.Choose.{choose, choose-yes, choose-no}
 use Rattle.theory.specs.Holding.{Least, Under, Ascending, run}
 use Rattle.theory.specs.list.Runs.{flat}

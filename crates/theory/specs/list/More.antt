@@ -1,12 +1,12 @@
 -- One copy more: the list stays ascending, is longer by one, and only the run of its quotient grows. Assumes nothing.
-use Prim.Native.Nat.{ℕ, zero, suc, _+_, _-_, _*_, _/_, _%_, _≤_, _<_, min, max}
-use mathlib.Core.Path.{_≡_, refl, sym, ap, ap₂, _∙_}
-use mathlib.Core.Logic.{_⊎_, inl, inr, _≢_}
-use mathlib.Core.List.{List, [], _∷_, _++_, map}
+use Prim.Native.Nat.{ℕ, zero, suc, _*_, _/_, _%_, _≤_, _<_}
+use mathlib.Core.Path.{_≡_, refl, sym, ap, _∙_}
+use mathlib.Core.Logic.{_≢_}
+use mathlib.Core.List.{List, [], _∷_}
 use native.Mathlib.Omega.{arith}
-use native.Mathlib.Decide.{decLe, decLt, ℕ-discrete}
-use native.Mathlib.Nat.{add-zero, add-suc, suc-add, zero-add, add-comm, eq-zero-or-pos, le-div-iff-mul-le, div-lt-iff-lt-mul, div-add-mod', mod-lt, le-refl, le-trans}
-use lib.ListN.{length, getD, length-append, length-map}
+use native.Mathlib.Decide.{decLe, ℕ-discrete}
+use native.Mathlib.Nat.{div-add-mod', le-trans}
+use lib.ListN.{length, getD}
 use Rattle.theory.specs.tools.Choose.{choose-by, choose-no, choose, choose-yes}
 use Rattle.theory.specs.Holding.{more, run, Under, Ascending, Least}
 use Rattle.theory.specs.list.Runs.{run-here, run-other, run-nil}

@@ -1,11 +1,11 @@
 -- A holding is its runs, one after the other. Assumes nothing.
-use Prim.Native.Nat.{ℕ, zero, suc, _+_, _-_, _*_, _/_, _%_, _≤_, _<_, min, max}
-use mathlib.Core.Path.{_≡_, refl, sym, ap, ap₂, _∙_}
-use mathlib.Core.Logic.{_⊎_, inl, inr, _≢_}
+use Prim.Native.Nat.{ℕ, zero, suc, _+_, _-_, _*_, _/_, _%_, _≤_, _<_}
+use mathlib.Core.Path.{_≡_, refl, sym, ap, _∙_}
+use mathlib.Core.Logic.{_≢_}
 use mathlib.Core.List.{List, [], _∷_, _++_, map}
 use native.Mathlib.Omega.{arith}
-use native.Mathlib.Decide.{decLe, decLt, ℕ-discrete}
-use native.Mathlib.Nat.{add-zero, add-suc, suc-add, zero-add, add-comm, eq-zero-or-pos, le-div-iff-mul-le, div-lt-iff-lt-mul, div-add-mod', mod-lt, le-refl, le-trans}
+use native.Mathlib.Decide.{ℕ-discrete}
+use native.Mathlib.Nat.{add-zero, add-suc, le-div-iff-mul-le, div-lt-iff-lt-mul, div-add-mod', mod-lt, le-refl}
 use lib.ListN.{length, getD, length-append, length-map}
 use Rattle.theory.specs.tools.Choose.{choose-no, choose-yes, choose-by}
 use Rattle.theory.specs.tools.Total.{total}

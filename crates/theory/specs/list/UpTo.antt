@@ -10,7 +10,7 @@ use Rattle.theory.specs.Holding.{more, Ascending, Under}
 use Rattle.theory.specs.Shape.{fingerprint}
 use Rattle.theory.specs.Changing.{upTo}
 use Rattle.theory.specs.Joining.{added, addedOnce}
-use Rattle.theory.specs.list.Changed.{up-to-by, up-to-more}
+use Rattle.theory.specs.list.RuleCases.{up-to-by, up-to-more}
 use Rattle.theory.specs.list.Copies.{copies-le, copies-nil, copies-tell}
 use Rattle.theory.specs.list.More.{more-length, more-ascending}
 use Rattle.theory.specs.list.Adding.{copies-added, added-keeps}

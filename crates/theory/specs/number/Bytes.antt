@@ -106,14 +106,6 @@ bytes-toBytes zero x i = omega arith
 bytes-toBytes (suc n) x zero = omega arith
 bytes-toBytes (suc n) x (suc i) = bytes-toBytes n (x / 256) i
 
-pub toBytes-le : (s : List ℕ) → Bytes s → toBytes (length s) (le s) ≡ s
-unfolding toBytes le
-toBytes-le [] h = refl
-toBytes-le (b ∷ s) h =
-    let m : (b % 256 + 256 * le s) % 256 ≡ b = omega (arith, h 0) in
-    let d : (b % 256 + 256 * le s) / 256 ≡ le s = omega arith in
-    ap₂ (λ (a : ℕ) (r : List ℕ). a ∷ r) m (ap (λ (y : ℕ). toBytes (length s) y) d ∙ toBytes-le s (λ i. h (suc i)))
-
 -- ---- two lists in a row, and the bytes of a number, as fields
 pub append-low : (s t : List ℕ) (p w : ℕ) → p + w ≤ 8 * length s → field (le (s ++ t)) p w ≡ field (le s) p w
 append-low s t p w h =

@@ -5,7 +5,7 @@ use native.Mathlib.Omega.{arith}
 use Rattle.theory.specs.number.Count.{rank, rank-suc, rank-mono, rank-none}
 use Rattle.theory.specs.number.Field.{field, field-div}
 use Rattle.theory.specs.number.Lowest.{Lowest}
-use Rattle.theory.specs.layout.Ring.{high-one}
+use Rattle.theory.specs.reading.Ring.{high-one}
 
 -- no ones below p
 rank-zeros : (y p j : ℕ) → rank y p ≡ 0 → j < p → field y j 1 ≡ 0

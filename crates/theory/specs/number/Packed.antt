@@ -1,12 +1,10 @@
 -- Numbers of w digits each, packed without gaps, the first lowest; and a byte list as a number, part by part. Assumes nothing.
-use Prim.Native.Nat.{ℕ, zero, suc, _+_, _-_, _*_, _/_, _%_, _^_, _≤_, _<_}
-use mathlib.Core.Path.{_≡_, refl, sym, ap, _∙_}
-use mathlib.Core.List.{List, [], _∷_, _++_}
+use Prim.Native.Nat.{ℕ, zero, suc, _+_, _*_, _^_, _≤_, _<_}
+use mathlib.Core.Path.{_≡_, sym, _∙_}
 use native.Mathlib.Omega.{arith}
 use native.Mathlib.Decide.{ℕ-discrete}
-use native.Mathlib.Nat.{zero-mul, suc-mul, add-mul, one-mul, mul-le-mul-right, mod-eq-of-lt, mod-one, mul-suc, mul-comm, pow-suc, div-eq-of-lt}
-use lib.ListN.{length, length-append}
-use lib.Pow.{pow-add, pow-pos, high, low, mod-pow-add}
+use native.Mathlib.Nat.{zero-mul, suc-mul, mul-le-mul-right, mod-eq-of-lt, mul-comm}
+use lib.Pow.{pow-add, high, low}
 use lib.Arith.{digits-lt}
 use Rattle.theory.specs.number.Field.{field-mod, field}
 

@@ -1,4 +1,4 @@
--- Document 01 clamps a rate to 2 ^ -64 .. 0.5 before it looks for rbits: that changes nothing. Assumes nothing.
+-- To clamp a rate to 2 ^ -64 .. 0.5 before rbits is looked for changes nothing. Assumes nothing.
 use Prim.Native.Nat.{ℕ, zero, suc, _+_, _*_, _^_, _≤_, _<_}
 use native.Mathlib.Omega.{arith}
 use native.Mathlib.Nat.{mul-le-mul-left}

@@ -1,6 +1,6 @@
 -- The width that a capacity needs: it suffices, no smaller one does, and how a walk upwards finds it. Assumes nothing.
 use Prim.Native.Nat.{ℕ, zero, suc, _+_, _-_, _≤_, _<_}
-use mathlib.Core.Path.{_≡_, refl}
+use mathlib.Core.Path.{_≡_, refl, ap, _∙_}
 use native.Mathlib.Omega.{arith}
 use native.Mathlib.Decide.{decLe, decLt}
 use Rattle.theory.specs.tools.Cases.{by-eq}
@@ -87,3 +87,23 @@ needed-mono a b l h = go (decLt (neededQbits b) (neededQbits a))
     go : Dec (neededQbits b < neededQbits a) → neededQbits a ≤ neededQbits b
     go (yes m) = absurd (omega (arith, needed-enough b h, needed-least a (neededQbits b) (needed-low b) m))
     go (no m) = omega arith
+
+-- ---- the walk up to a last width
+-- one that is not past the last has the capacity
+pub width-found : (k q c : ℕ) → widthFrom k q c < q + k → c ≤ capacity (widthFrom k q c)
+unfolding widthFrom
+width-found zero q c = λ h. absurd (omega arith)
+width-found (suc k) q c =
+    choose-by (λ z. z < q + suc k → c ≤ capacity z) (decLe c (capacity q)) (λ l _. l) (λ _ h. width-found k (suc q) c (omega arith))
+
+pub width-on : (last q c : ℕ) → q ≤ last → capacity q < c → widthFrom (last + 1 - q) q c ≡ widthFrom (last + 1 - (q + 1)) (q + 1) c
+width-on last q c h l =
+    let e : last + 1 - q ≡ suc (last + 1 - (q + 1)) = omega arith in
+    let f : suc q ≡ q + 1 = omega arith in
+    ap (λ k. widthFrom k q c) e ∙ width-next (last + 1 - (q + 1)) q c l ∙ ap (λ z. widthFrom (last + 1 - (q + 1)) z c) f
+
+pub width-past : (last q c : ℕ) → last < q → widthFrom (last + 1 - q) q c ≡ q
+unfolding widthFrom
+width-past last q c h =
+    let e : last + 1 - q ≡ 0 = omega arith in
+    ap (λ k. widthFrom k q c) e

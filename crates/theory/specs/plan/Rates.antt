@@ -1,5 +1,5 @@
 -- The floats of planning. Halving a power of two is exact from 1 down to 2 ^ -64, and so is rbits + 2.125: each is one test that antt computes at
--- every width. What a walk by halving finds is the least k of document 01. Assumes nothing.
+-- every width. What a walk by halving finds is the least k of docs/RULES.md, "Planning". Assumes nothing.
 use Prim.Native.Nat.{ℕ, zero, suc, _+_, _-_, _*_, _≤_, _<_}
 use native.Mathlib.Omega.{arith}
 use native.Mathlib.Nat.{eq-or-lt-of-le, le-of-suc-le-suc}
@@ -114,7 +114,7 @@ halved (suc j) k rate = go (lt rate (halfPow k)) refl (halved j (suc k) rate)
     }
     go false e h = record { low = omega arith; high = omega arith; below = λ i a b. absurd (omega arith); stop = λ l. e }
 
--- document 01's rbits: from 1 to 64, the rate below each 2 ^ -k before it and, if it is not 64, not below its own
+-- rbits as the rules have it: from 1 to 64, the rate below each 2 ^ -k before it and, if it is not 64, not below its own
 pub rbits-halved : (rate : Float) → Halved 63 1 rate (rbitsFor rate)
 unfolding rbitsFor
 rbits-halved rate = halved 63 1 rate

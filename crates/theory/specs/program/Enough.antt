@@ -11,11 +11,11 @@ use lib.ListN.{length, take, drop, getD, length-drop}
 use lib.Seq.{take-all, length-take-le, getD-take}
 use Rattle.theory.specs.tools.Choose.{choose-no}
 use Rattle.theory.specs.Shape.{slots, blocks, bytes, Widths}
-use Rattle.theory.specs.layout.Sizes.{slots-blocks}
-use Rattle.theory.specs.check.Refusals.{else-none, due-size}
+use Rattle.theory.specs.images.Sizes.{slots-blocks}
+use Rattle.theory.specs.refusals.ByNumber.{else-none, due-size}
 use Rattle.theory.specs.Report.{lenOf, qbitsOf, rbitsOf, maxOf, headerBytes, bufferOf, maxQbits, headerDue, numberDue, markDue, refused, reportOf}
-use Rattle.theory.specs.program.Asked.{none-header}
-use Rattle.theory.specs.program.Answers.{report-header, report-number}
+use Rattle.theory.specs.refusals.ProgramAsks.{none-header}
+use Rattle.theory.specs.program.TextByDue.{report-header, report-number}
 
 -- as many bytes of the input
 unfoldable pub enough : ℕ

@@ -13,10 +13,10 @@ use Rattle.theory.specs.Image.{image}
 use Rattle.theory.specs.Refusal.{due}
 use Rattle.theory.specs.Sound.{Holds}
 use Rattle.theory.specs.Report.{lenOf, qbitsOf, rbitsOf, maxOf, bufferOf, markDue, maxQbits, headerDue, sound, reportOf}
-use Rattle.theory.specs.check.Promises.{a-filter}
-use Rattle.theory.specs.check.Refusals.{widths-none}
-use Rattle.theory.specs.program.Asked.{mark-none, header-limit, limit-none}
-use Rattle.theory.specs.program.Answers.{report-checked}
+use Rattle.theory.specs.refusals.Demands.{a-filter}
+use Rattle.theory.specs.refusals.ByNumber.{widths-none}
+use Rattle.theory.specs.refusals.ProgramAsks.{mark-none, header-limit, limit-none}
+use Rattle.theory.specs.program.TextByDue.{report-checked}
 
 -- the mark, len, qbits, rbits, max_qbits and the buffer
 unfoldable pub fileOf : ℕ → ℕ → ℕ → ℕ → List ℕ → List ℕ

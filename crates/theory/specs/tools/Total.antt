@@ -1,9 +1,9 @@
 -- Sums f 0 + .. + f (k - 1): all that is counted, fingerprints, ones and runends, is such a sum. Assumes nothing.
-use Prim.Native.Nat.{ℕ, zero, suc, _+_, _-_, _*_, _≤_, _<_, max}
-use mathlib.Core.Path.{_≡_, refl, sym, ap, _∙_}
+use Prim.Native.Nat.{ℕ, zero, suc, _+_, _-_, _≤_, _<_}
+use mathlib.Core.Path.{_≡_, refl}
 use native.Mathlib.Omega.{arith}
 use native.Mathlib.Decide.{decLt}
-use native.Mathlib.Nat.{add-zero, add-suc, add-comm}
+use native.Mathlib.Nat.{add-zero, add-suc}
 
 -- how many have a quotient below k
 unfoldable pub total : (ℕ → ℕ) → ℕ → ℕ
@@ -37,11 +37,6 @@ pub total-le : (f : ℕ → ℕ) (s t : ℕ) → s ≤ t → total f s ≤ total
 total-le f s t l =
     let e : s + (t - s) ≡ t = omega arith in
     rw e at (total-mono f s (t - s))
-
--- k slots have k bits at most
-pub total-bits : (f : ℕ → ℕ) → ((t : ℕ) → f t ≤ 1) → (s k : ℕ) → total f (s + k) ≤ total f s + k
-total-bits f h s zero = rw (add-zero s) (omega arith)
-total-bits f h s (suc k) = rw (add-suc s k) (omega (arith, total-bits f h s k, total-suc f (s + k), h (s + k)))
 
 -- a set bit is told by how many stand before it
 pub select-unique : (f : ℕ → ℕ) (s t : ℕ) → 0 < f s → 0 < f t → total f s ≡ total f t → s ≡ t

@@ -6,10 +6,10 @@ use Rattle.vectors.proofs.main.Statement.{statement}
 use Rattle.vectors.proofs.main.Tie as tie
 
 abbrev Inv-loop : tie.InvT-loop
-Inv-loop own₀ other₀ dest₀ bench₀ left₀ own other dest bench left = left ≤ left₀
+Inv-loop own₀ other₀ dest₀ bench₀ left₀ own other dest state left = left ≤ left₀
 
 abbrev μ-loop : tie.MeasureT-loop
-μ-loop own₀ other₀ dest₀ bench₀ left₀ own other dest bench left = left
+μ-loop own₀ other₀ dest₀ bench₀ left₀ own other dest state left = left
 
 new-requires : tie.Need-new-requires Inv-loop μ-loop
 new-requires c κs = search needs

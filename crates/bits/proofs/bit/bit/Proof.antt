@@ -2,8 +2,6 @@ use Rattle.theory.specs.number.Field.{field}
 use borrow.Author.Needs.{needs}
 use Rattle.bits.proofs.bit.bit.Statement.{statement}
 use Rattle.bits.proofs.bit.bit.Tie as tie
-use Rattle.bits.proofs.bit.bit.Reads as reads
-use Rattle.bits.proofs.bit.bit.Lts as lts
 
 shr-result : tie.Need-shr-result
 shr-result c = search needs

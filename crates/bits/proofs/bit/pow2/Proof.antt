@@ -1,10 +1,8 @@
 use lib.Pow.{pow-pos}
-use Rattle.bits.proofs.Laws.{one-shl}
+use Rattle.theory.specs.number.WordLaws.{one-shl}
 use borrow.Author.Needs.{needs}
 use Rattle.bits.proofs.bit.pow2.Statement.{statement}
 use Rattle.bits.proofs.bit.pow2.Tie as tie
-use Rattle.bits.proofs.bit.pow2.Reads as reads
-use Rattle.bits.proofs.bit.pow2.Lts as lts
 
 shl-result : tie.Need-shl-result
 shl-result c = search needs

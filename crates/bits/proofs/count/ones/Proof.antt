@@ -1,7 +1,7 @@
 -- `bits::count::ones`: what `count_ones` counts is the rank of the whole word. Assumes nothing.
 use native.Mathlib.Omega.{arith}
 use lib.Count.{ones-le}
-use Rattle.theory.specs.number.Count.{ones-rank, rank-le}
+use Rattle.theory.specs.number.Count.{ones-rank}
 use Rattle.bits.proofs.count.ones.Statement.{statement}
 use Rattle.bits.proofs.count.ones.Tie as tie
 

@@ -1,6 +1,6 @@
 -- `bits::count::ones_through`: shifted up, the digits up to i are the highest. Assumes nothing.
-use Prim.Native.Nat.{_+_, _-_, _*_, _^_, _%_}
-use mathlib.Core.Path.{_≡_, _∙_, ap}
+use Prim.Native.Nat.{_+_, _-_, _*_, _^_}
+use mathlib.Core.Path.{_≡_, _∙_}
 use native.Mathlib.Omega.{arith}
 use Rattle.theory.specs.number.Count.{rank, rank-mod, rank-up, rank-le}
 use borrow.Author.Needs.{needs}

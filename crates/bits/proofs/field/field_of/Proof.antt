@@ -3,9 +3,6 @@ use Rattle.theory.specs.number.Field.{field}
 use borrow.Author.Needs.{needs}
 use Rattle.bits.proofs.field.field_of.Statement.{statement}
 use Rattle.bits.proofs.field.field_of.Tie as tie
-use Rattle.bits.proofs.field.field_of.Reads as reads
-use Rattle.bits.proofs.field.field_of.Lts as lts
-use Rattle.bits.proofs.bit.pow2.Reads as pow2-reads
 
 shr-result : tie.Need-shr-result
 shr-result c = search needs

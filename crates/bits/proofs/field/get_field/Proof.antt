@@ -5,10 +5,6 @@ use Rattle.theory.specs.number.Field.{field-field}
 use borrow.Author.Needs.{needs}
 use Rattle.bits.proofs.field.get_field.Statement.{statement}
 use Rattle.bits.proofs.field.get_field.Tie as tie
-use Rattle.bits.proofs.field.get_field.Reads as reads
-use Rattle.bits.proofs.field.get_field.Lts as lts
-use Rattle.bits.proofs.field.field_of.Reads as field-of-reads
-use Rattle.bits.proofs.word.read64.Reads as read64-reads
 
 read64-requires : tie.Need-read64-requires
 read64-requires c κs = search needs

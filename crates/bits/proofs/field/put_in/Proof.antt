@@ -1,11 +1,8 @@
 use native.Mathlib.Omega.{arith}
-use Rattle.bits.proofs.Laws.{PutCode, put-code}
+use Rattle.theory.specs.number.WordLaws.{PutCode, put-code}
 use borrow.Author.Needs.{needs}
 use Rattle.bits.proofs.field.put_in.Statement.{statement}
 use Rattle.bits.proofs.field.put_in.Tie as tie
-use Rattle.bits.proofs.field.put_in.Reads as reads
-use Rattle.bits.proofs.field.put_in.Lts as lts
-use Rattle.bits.proofs.field.field_of.Reads as field-of-reads
 
 facts : (c : tie.After-field-of) → PutCode (c .before .args .x) (c .before .args .p) (c .before .args .w) (c .before .args .v) (c .field-of .result)
 facts c =

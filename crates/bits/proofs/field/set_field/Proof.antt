@@ -5,11 +5,6 @@ use Rattle.theory.specs.number.Field.{put-put}
 use borrow.Author.Needs.{needs}
 use Rattle.bits.proofs.field.set_field.Statement.{statement}
 use Rattle.bits.proofs.field.set_field.Tie as tie
-use Rattle.bits.proofs.field.set_field.Reads as reads
-use Rattle.bits.proofs.field.set_field.Lts as lts
-use Rattle.bits.proofs.field.put_in.Reads as put-in-reads
-use Rattle.bits.proofs.word.read64.Reads as read64-reads
-use Rattle.bits.proofs.word.write64.Reads as write64-reads
 
 read64-requires : tie.Need-read64-requires
 read64-requires c κs = search needs

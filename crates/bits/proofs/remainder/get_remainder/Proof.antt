@@ -2,21 +2,18 @@ use Rattle.theory.specs.number.Field.{field-lt}
 use native.Mathlib.Omega.{arith}
 use Prim.Native.Nat.{_+_, _*_, _/_, _%_}
 use mathlib.Core.Path.{_≡_}
-use Rattle.bits.proofs.Laws.{place}
+use Rattle.theory.specs.number.WordLaws.{packed-at}
 use Rattle.bits.proofs.remainder.get_remainder.Statement.{statement}
 use Rattle.bits.proofs.remainder.get_remainder.Tie as tie
-use Rattle.bits.proofs.remainder.get_remainder.Reads as reads
-use Rattle.bits.proofs.remainder.get_remainder.Lts as lts
-use Rattle.bits.proofs.field.get_field.Reads as get-field-reads
 
 mul-p : tie.Need-mul-p
-mul-p c = let q = place (c .before .args .i) (c .before .args .rbits) (omega arith) (omega arith) in omega arith
+mul-p c = let q = packed-at (c .before .args .i) (c .before .args .rbits) (omega arith) (omega arith) in omega arith
 
 add-get-field : tie.Need-add-get-field
-add-get-field c = let q = place (c .before .args .i) (c .before .args .rbits) (omega arith) (omega arith) in omega arith
+add-get-field c = let q = packed-at (c .before .args .i) (c .before .args .rbits) (omega arith) (omega arith) in omega arith
 
 get-field-requires : tie.Need-get-field-requires
-get-field-requires c κs = let q = place (c .before .args .i) (c .before .args .rbits) (omega arith) (omega arith) in omega arith
+get-field-requires c κs = let q = packed-at (c .before .args .i) (c .before .args .rbits) (omega arith) (omega arith) in omega arith
 
 returns : tie.Need-returns
 returns c =

@@ -1,22 +1,19 @@
 use native.Mathlib.Omega.{arith}
 use Prim.Native.Nat.{_+_, _*_, _/_, _%_}
 use mathlib.Core.Path.{_≡_}
-use Rattle.bits.proofs.Laws.{place}
+use Rattle.theory.specs.number.WordLaws.{packed-at}
 use borrow.Author.Needs.{needs}
 use Rattle.bits.proofs.remainder.set_remainder.Statement.{statement}
 use Rattle.bits.proofs.remainder.set_remainder.Tie as tie
-use Rattle.bits.proofs.remainder.set_remainder.Reads as reads
-use Rattle.bits.proofs.remainder.set_remainder.Lts as lts
-use Rattle.bits.proofs.field.set_field.Reads as set-field-reads
 
 mul-p : tie.Need-mul-p
-mul-p c = let q = place (c .before .args .i) (c .before .args .rbits) (omega arith) (omega arith) in omega arith
+mul-p c = let q = packed-at (c .before .args .i) (c .before .args .rbits) (omega arith) (omega arith) in omega arith
 
 add-set-field : tie.Need-add-set-field
-add-set-field c = let q = place (c .before .before .args .i) (c .before .before .args .rbits) (omega arith) (omega arith) in omega arith
+add-set-field c = let q = packed-at (c .before .before .args .i) (c .before .before .args .rbits) (omega arith) (omega arith) in omega arith
 
 set-field-requires : tie.Need-set-field-requires
-set-field-requires c κs = let q = place (c .before .before .args .i) (c .before .before .args .rbits) (omega arith) (omega arith) in omega arith
+set-field-requires c κs = let q = packed-at (c .before .before .args .i) (c .before .before .args .rbits) (omega arith) (omega arith) in omega arith
 
 same-length : tie.Need-same-length
 same-length c = search needs

@@ -1,11 +1,8 @@
 use native.Mathlib.Omega.{arith}
-use Rattle.bits.proofs.Laws.{pair}
+use Rattle.theory.specs.number.WordLaws.{pair}
 use borrow.Author.Needs.{needs}
 use Rattle.bits.proofs.word.read16.Statement.{statement}
 use Rattle.bits.proofs.word.read16.Tie as tie
-use Rattle.bits.proofs.word.read16.Reads as reads
-use Rattle.bits.proofs.word.read16.Lts as lts
-use Rattle.bits.proofs.word.read8.Reads as read8-reads
 
 add-read8 : tie.Need-add-read8
 add-read8 c = search needs

@@ -1,11 +1,8 @@
 use native.Mathlib.Omega.{arith}
-use Rattle.bits.proofs.Laws.{pair}
+use Rattle.theory.specs.number.WordLaws.{pair}
 use borrow.Author.Needs.{needs}
 use Rattle.bits.proofs.word.read32.Statement.{statement}
 use Rattle.bits.proofs.word.read32.Tie as tie
-use Rattle.bits.proofs.word.read32.Reads as reads
-use Rattle.bits.proofs.word.read32.Lts as lts
-use Rattle.bits.proofs.word.read16.Reads as read16-reads
 
 add-read16 : tie.Need-add-read16
 add-read16 c = search needs

@@ -1,11 +1,7 @@
-use native.Mathlib.Omega.{arith}
-use Rattle.bits.proofs.Laws.{pair}
+use Rattle.theory.specs.number.WordLaws.{pair}
 use borrow.Author.Needs.{needs}
 use Rattle.bits.proofs.word.read64.Statement.{statement}
 use Rattle.bits.proofs.word.read64.Tie as tie
-use Rattle.bits.proofs.word.read64.Reads as reads
-use Rattle.bits.proofs.word.read64.Lts as lts
-use Rattle.bits.proofs.word.read32.Reads as read32-reads
 
 add-read32 : tie.Need-add-read32
 add-read32 c = search needs

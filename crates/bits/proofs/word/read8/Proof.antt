@@ -6,8 +6,6 @@ use Rattle.theory.specs.number.Bytes.{le-byte}
 use borrow.Author.Needs.{needs}
 use Rattle.bits.proofs.word.read8.Statement.{statement}
 use Rattle.bits.proofs.word.read8.Tie as tie
-use Rattle.bits.proofs.word.read8.Reads as reads
-use Rattle.bits.proofs.word.read8.Lts as lts
 
 shared-slice-read-result : tie.Need-shared-slice-read-result
 shared-slice-read-result c = search needs

@@ -1,11 +1,8 @@
 use native.Mathlib.Omega.{arith}
-use Rattle.bits.proofs.Laws.{two}
+use Rattle.theory.specs.number.WordLaws.{two}
 use borrow.Author.Needs.{needs}
 use Rattle.bits.proofs.word.write16.Statement.{statement}
 use Rattle.bits.proofs.word.write16.Tie as tie
-use Rattle.bits.proofs.word.write16.Reads as reads
-use Rattle.bits.proofs.word.write16.Lts as lts
-use Rattle.bits.proofs.word.write8.Reads as write8-reads
 
 write8-requires : tie.Need-write8-requires
 write8-requires c κs = search needs

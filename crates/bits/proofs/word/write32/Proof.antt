@@ -1,11 +1,8 @@
 use native.Mathlib.Omega.{arith}
-use Rattle.bits.proofs.Laws.{two}
+use Rattle.theory.specs.number.WordLaws.{two}
 use borrow.Author.Needs.{needs}
 use Rattle.bits.proofs.word.write32.Statement.{statement}
 use Rattle.bits.proofs.word.write32.Tie as tie
-use Rattle.bits.proofs.word.write32.Reads as reads
-use Rattle.bits.proofs.word.write32.Lts as lts
-use Rattle.bits.proofs.word.write16.Reads as write16-reads
 
 write16-requires : tie.Need-write16-requires
 write16-requires c κs = search needs

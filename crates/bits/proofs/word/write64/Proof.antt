@@ -1,11 +1,8 @@
 use native.Mathlib.Omega.{arith}
-use Rattle.bits.proofs.Laws.{two}
+use Rattle.theory.specs.number.WordLaws.{two}
 use borrow.Author.Needs.{needs}
 use Rattle.bits.proofs.word.write64.Statement.{statement}
 use Rattle.bits.proofs.word.write64.Tie as tie
-use Rattle.bits.proofs.word.write64.Reads as reads
-use Rattle.bits.proofs.word.write64.Lts as lts
-use Rattle.bits.proofs.word.write32.Reads as write32-reads
 
 write32-requires : tie.Need-write32-requires
 write32-requires c κs = search needs

@@ -3,8 +3,6 @@ use Rattle.theory.specs.number.Bytes.{le-set}
 use borrow.Author.Needs.{needs}
 use Rattle.bits.proofs.word.write8.Statement.{statement}
 use Rattle.bits.proofs.word.write8.Tie as tie
-use Rattle.bits.proofs.word.write8.Reads as reads
-use Rattle.bits.proofs.word.write8.Lts as lts
 
 cast-s : tie.Need-cast-s
 cast-s c = search needs

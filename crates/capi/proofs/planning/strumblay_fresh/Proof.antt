@@ -17,17 +17,27 @@ enum-known-made-2 c = search needs
 cast-t11 : tie.Need-cast-t11
 cast-t11 c = search needs
 
+empty-requires : tie.Need-empty-requires
+empty-requires c κs = search needs
+
 same-length : tie.Need-same-length
 same-length c = search needs
 
 returns : tie.Need-returns
-returns c = record { answer = c .before .before .before .before .before .fresh .result; right = c .before .before .before .before .before .fresh .ensures; is = ap (freshOf (c .before .before .before .before .before .before .before .before .args .qbits) (c .before .before .before .before .before .before .before .before .args .rbits) (c .before .before .before .before .before .before .before .before .args .max-qbits)) (sym (c .before .made .given .1)) }
+returns c =
+    let o = c .before .before .before .before .before .fresh in
+    let a = c .before .before .before .before .before .before .before .before .args in
+    record { answer = o .result; right = o .ensures; is = ap (freshOf (a .qbits) (a .rbits) (a .max-qbits)) (sym (c .before .made .given .1)) }
 
 same-length-2 : tie.Need-same-length-2
 same-length-2 c = search needs
 
 returns-2 : tie.Need-returns-2
-returns-2 c = record { answer = c .before .before .before .before .before .fresh .result; right = c .before .before .before .before .before .fresh .ensures; is = ap (freshOf (c .before .before .before .before .before .before .before .before .args .qbits) (c .before .before .before .before .before .before .before .before .args .rbits) (c .before .before .before .before .before .before .before .before .args .max-qbits)) (sym (c .before .made2 .given .1)) }
+returns-2 c =
+    let d = c .before in
+    let o = d .before .before .before .before .before .fresh in
+    let a = d .before .before .before .before .before .before .before .before .args in
+    record { answer = o .result; right = o .ensures; is = rw (c .empty .ensures) (ap (freshOf (a .qbits) (a .rbits) (a .max-qbits)) (sym (d .before .made2 .given .1))) }
 
 pub strumblay-fresh-spec : {M : Type 1} → statement M
 strumblay-fresh-spec =
@@ -37,6 +47,7 @@ strumblay-fresh-spec =
     enum-known-made
     enum-known-made-2
     cast-t11
+    empty-requires
     same-length
     returns
     same-length-2

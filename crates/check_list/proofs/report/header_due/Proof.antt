@@ -5,9 +5,9 @@ use mathlib.Core.List.{List}
 use native.Mathlib.Omega.{arith}
 use denote.Ref.{now}
 use Rattle.theory.specs.Refusal.{widthsDue}
-use Rattle.theory.specs.check.Refusals.{widths-none, widths-due}
+use Rattle.theory.specs.refusals.ByNumber.{widths-none, widths-due}
 use Rattle.theory.specs.Report.{qbitsOf, rbitsOf, markDue, maxQbits}
-use Rattle.theory.specs.program.Asked.{none-mark, limit-due, limit-none, header-mark, header-widths, header-limit}
+use Rattle.theory.specs.refusals.ProgramAsks.{none-mark, limit-due, limit-none, header-mark, header-widths, header-limit}
 use Rattle.layout.specs.Shapes.{ShapedAs}
 use Rattle.layout.specs.declared.shape.Shaped.the-variants.{Of}
 use borrow.Author.Needs.{needs}

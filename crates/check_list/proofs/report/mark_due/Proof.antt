@@ -1,7 +1,7 @@
 -- `check_list::report::mark_due`: number 13, question by question. Assumes nothing.
 use mathlib.Core.Path.{sym}
 use native.Mathlib.Omega.{arith}
-use Rattle.theory.specs.program.Asked.{mark-short, mark-first, mark-second, mark-none}
+use Rattle.theory.specs.refusals.ProgramAsks.{mark-short, mark-first, mark-second, mark-none}
 use borrow.Author.Needs.{needs}
 use Rattle.check_list.proofs.report.mark_due.Statement.{statement}
 use Rattle.check_list.proofs.report.mark_due.Tie as tie

@@ -7,15 +7,15 @@ use native.Mathlib.Omega.{arith}
 use lib.ListN.{length, take, drop, length-take, length-drop}
 use lib.Seq.{take-all}
 use Rattle.theory.specs.Text.{lines}
-use Rattle.theory.specs.program.Answers.{same-held}
+use Rattle.theory.specs.program.TextByDue.{same-held}
 use Rattle.layout.specs.declared.numbers.Numbers.{Numbers}
-use Rattle.layout.specs.Verdicts.{SoundOf}
+use Rattle.layout.specs.Records.{SoundOf}
 use Rattle.filter.specs.declared.listing.Place.{Place}
 use Rattle.filter.specs.Places.{placeOf, place-left}
 use Rattle.check_list.specs.Written.{Written}
 use Rattle.check_list.specs.Steps.{PutStep}
 use Rattle.check_list.proofs.Filled.{written-none, written-as, written-more, written-length, rest}
-use Rattle.check_list.proofs.Lines.{lines-length, lines-next}
+use Rattle.theory.specs.program.Lines.{lines-length, lines-next}
 use borrow.Rule.Slice.PartMut.{putMid}
 use borrow.Author.Needs.{needs}
 use Rattle.check_list.proofs.report.put_lines.Statement.{statement}

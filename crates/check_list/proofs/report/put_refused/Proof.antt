@@ -3,7 +3,7 @@ use native.Mathlib.Omega.{arith}
 use native.Mathlib.Nat.{le-trans}
 use Rattle.theory.specs.Text.{ascii}
 use Rattle.theory.specs.Report.{refused}
-use Rattle.check_list.proofs.Numerals.{headline-short}
+use Rattle.theory.specs.program.Numerals.{headline-short}
 use borrow.Author.Needs.{needs}
 use Rattle.check_list.proofs.report.put_refused.Statement.{statement}
 use Rattle.check_list.proofs.report.put_refused.Tie as tie

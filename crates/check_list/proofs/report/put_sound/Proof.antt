@@ -7,8 +7,8 @@ use lib.ListN.{length, length-drop}
 use Rattle.theory.specs.Text.{ascii}
 use Rattle.theory.specs.Report.{sound}
 use Rattle.check_list.proofs.Filled.{written-more, written-length, rest}
-use Rattle.check_list.proofs.Lines.{lines-length}
-use Rattle.check_list.proofs.Numerals.{headline-short}
+use Rattle.theory.specs.program.Lines.{lines-length}
+use Rattle.theory.specs.program.Numerals.{headline-short}
 use borrow.Author.Needs.{needs}
 use Rattle.check_list.proofs.report.put_sound.Statement.{statement}
 use Rattle.check_list.proofs.report.put_sound.Tie as tie

@@ -9,15 +9,15 @@ use denote.Enum.Declared.{tagOf}
 use types.Run.{OneOf}
 use lib.ListN.{length, getD}
 use Rattle.theory.specs.Text.{line}
-use Rattle.layout.specs.Verdicts.{lowestDue}
+use Rattle.layout.specs.Records.{lowestDue, HoldsOf}
 use Rattle.filter.proofs.listing.Step.{the-type}
 use Rattle.filter.specs.declared.listing.Step.{Step}
 use Rattle.filter.specs.declared.listing.Step.the-variants.{Fingerprint}
 use Rattle.filter.specs.declared.listing.Stepped.{Stepped}
-use Rattle.filter.specs.Listing.{HoldsOf, listed-step}
+use Rattle.filter.specs.Listing.{listed-step}
 use Rattle.filter.specs.Places.{stepped, placeOf, step-some}
 use Rattle.check_list.proofs.Filled.{written-as, written-count}
-use Rattle.check_list.proofs.Lines.{line-length}
+use Rattle.theory.specs.program.Lines.{line-length}
 use borrow.Author.Needs.{needs}
 use Rattle.check_list.proofs.report.put_step.Statement.{statement}
 use Rattle.check_list.proofs.report.put_step.Tie as tie

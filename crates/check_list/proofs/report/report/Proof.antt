@@ -6,10 +6,9 @@ use native.Mathlib.Omega.{arith}
 use lib.ListN.{length, take, drop}
 use denote.Ref.{now}
 use Rattle.theory.specs.Shape.{slots}
-use Rattle.theory.specs.Report.{headerDue, maxQbits, refused}
-use Rattle.theory.specs.program.Asked.{none-header}
-use Rattle.theory.specs.program.Answers.{part, report-header}
-use Rattle.filter.specs.declared.listing.Begun.the-variants as begun
+use Rattle.theory.specs.Report.{headerBytes, headerDue, maxQbits, refused}
+use Rattle.theory.specs.refusals.ProgramAsks.{none-header}
+use Rattle.theory.specs.program.TextByDue.{part, report-header}
 use Rattle.filter.specs.Listing.{Begins}
 use Rattle.check_list.specs.Steps.{Ready}
 use Rattle.check_list.specs.Beginning.{text-refused, text-sound, text-few, begun-ready}
@@ -22,7 +21,7 @@ abbrev input : tie.Start → List ℕ
 input c = now (c .args .input)
 
 abbrev part-of : List ℕ → List ℕ
-part-of s = take (length s - 13) (drop 13 s)
+part-of s = take (length s - headerBytes) (drop headerBytes s)
 
 -- none of 13, 1 and 14 is due
 none : (c : tie.Else1) → headerDue (input (c .before .before .before)) ≡ 0

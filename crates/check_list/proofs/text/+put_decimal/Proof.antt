@@ -6,7 +6,7 @@ use native.Mathlib.Omega.{arith}
 use lib.ListN.{length, length-set}
 use Rattle.theory.specs.Text.{digit, decimal}
 use Rattle.check_list.proofs.Filled.{written-none, written-as, written-byte, written-length}
-use Rattle.check_list.proofs.Numerals.{decimal-small, decimal-more, more-length}
+use Rattle.theory.specs.program.Numerals.{decimal-small, decimal-more, longer-digits}
 use borrow.Fn.Kinds.{In}
 use borrow.Fn.PlainCycle.{Measures, is, falls, and}
 use Rattle.check_list.proofs.text.put_decimal.Reads as put-decimal
@@ -32,7 +32,7 @@ module _ (t : ℕ) where
       → c .put-decimal .result < length (c .before .before .before .before .args .out .now)
   room c =
       let a = c .before .before .before .before in
-      omega (arith, a .pre .1, c .put-decimal .ensures .many, more-length (a .args .n) (c .before .before .if1 .left))
+      omega (arith, a .pre .1, c .put-decimal .ensures .many, longer-digits (a .args .n) (c .before .before .if1 .left))
 
   digit-requires : lts.Need-digit-requires (digit-reads.Asked, digit-reads.Learnt, below t, put-decimal.Post) (at t) put-decimal.Post
   digit-requires c κs = omega arith
@@ -54,7 +54,7 @@ module _ (t : ℕ) where
   put-decimal-requires : lts.Need-put-decimal-requires (digit-reads.Asked, digit-reads.Learnt, below t, put-decimal.Post) (at t) put-decimal.Post
   put-decimal-requires c κs =
       let a = c .before .before .before in
-      (omega (arith, a .pre .0), omega (arith, a .pre .1, more-length (a .args .n) (c .before .if1 .left)))
+      (omega (arith, a .pre .0), omega (arith, a .pre .1, longer-digits (a .args .n) (c .before .if1 .left)))
 
   digit-requires-2 : lts.Need-digit-requires-2 (digit-reads.Asked, digit-reads.Learnt, below t, put-decimal.Post) (at t) put-decimal.Post
   digit-requires-2 c κs = omega arith

@@ -1,7 +1,7 @@
 -- `check_list::text::digit`: by the two cases. Assumes nothing.
 use mathlib.Core.Path.{sym}
 use native.Mathlib.Omega.{arith}
-use Rattle.check_list.proofs.Numerals.{digit-low, digit-high}
+use Rattle.theory.specs.program.Numerals.{digit-low, digit-high}
 use borrow.Author.Needs.{needs}
 use Rattle.check_list.proofs.text.digit.Statement.{statement}
 use Rattle.check_list.proofs.text.digit.Tie as tie

@@ -7,7 +7,7 @@ use lib.ListN.{length, set, length-set, length-drop}
 use Rattle.theory.specs.Text.{ascii, decimal, headline}
 use Rattle.check_list.specs.Written.{Written}
 use Rattle.check_list.proofs.Filled.{written-as, written-byte, written-more, written-length, rest}
-use Rattle.check_list.proofs.Numerals.{headline-length}
+use Rattle.theory.specs.program.Numerals.{headline-length}
 use borrow.Rule.Slice.PartMut.{putMid}
 use borrow.Author.Needs.{needs}
 use Rattle.check_list.proofs.text.put_headline.Statement.{statement}

@@ -9,7 +9,7 @@ use lib.ListN.{length-set}
 use Rattle.theory.specs.Text.{ascii, hex, line}
 use Rattle.check_list.specs.Written.{Written}
 use Rattle.check_list.proofs.Filled.{written-none, written-as, written-byte, written-length}
-use Rattle.check_list.proofs.Numerals.{hex-next}
+use Rattle.theory.specs.program.Numerals.{hex-next}
 use Rattle.check_list.proofs.text.put_line.Statement.{statement}
 use Rattle.check_list.proofs.text.put_line.Tie as tie
 

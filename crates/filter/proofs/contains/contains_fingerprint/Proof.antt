@@ -26,17 +26,23 @@ returns c = checked-refused _ _ _ _ _ (subst (Judged _ _) (c .before .verdict .g
 enum-told : tie.Need-enum-told
 enum-told c = search needs
 
-look-requires : tie.Need-look-requires
-look-requires c κs = clear-whole (c .before .before .before .before .args .n) (now (c .before .before .before .before .args .buf)) (sound c .none)
+shape-requires : tie.Need-shape-requires
+shape-requires c κs = search needs
+
+find-hash-requires : tie.Need-find-hash-requires
+find-hash-requires c κs =
+    let a = c .before .before .before .before .before .args in
+    rw (c .shape .ensures) (clear-whole (a .n) (now (a .buf)) (sound (c .before) .none))
 
 lookup-from-requires : tie.Need-lookup-from-requires
 lookup-from-requires c κs = search needs
 
 returns-2 : tie.Need-returns-2
 returns-2 c =
-    let v = c .before .before in
+    let w = c .before .before in
+    let v = w .before in
     let a = v .before .before .before .before .args in
-    checked-sound _ _ _ _ (sound v) (λ l h. ap lookupSays (c .lookup-from .ensures) ∙ looked (a .n) (now (a .buf)) l (a .hash) _ (clear-whole (a .n) (now (a .buf)) (sound v .none) .widths) (c .before .look .ensures) h)
+    checked-sound _ _ _ _ (sound v) (λ l h. ap lookupSays (c .lookup-from .ensures) ∙ looked (a .n) (now (a .buf)) l (a .hash) _ (clear-whole (a .n) (now (a .buf)) (sound v .none) .widths) (rw (w .shape .ensures) at (c .before .find-hash .ensures)) h)
 
 pub contains-fingerprint-spec : {M : Type 1} → statement M
 contains-fingerprint-spec =
@@ -46,6 +52,7 @@ contains-fingerprint-spec =
     enum-known-verdict
     returns
     enum-told
-    look-requires
+    shape-requires
+    find-hash-requires
     lookup-from-requires
     returns-2)

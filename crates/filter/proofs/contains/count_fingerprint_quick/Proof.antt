@@ -1,9 +1,8 @@
 -- `filter::contains::count_fingerprint_quick`: a number of 1 to 5, or the core. Assumes nothing.
-use Prim.Native.Nat.{_<_}
-use mathlib.Core.Path.{_≡_, refl, sym, _∙_}
+use mathlib.Core.Path.{_≡_, refl}
 use native.Mathlib.Omega.{arith}
 use denote.Ref.{now}
-use Rattle.layout.specs.Verdicts.{lowestDue}
+use Rattle.layout.specs.Records.{lowestDue}
 use Rattle.layout.specs.Judging.{quick-refused, quick-worked, clear-whole}
 use Rattle.filter.specs.Asking.{counted}
 use borrow.Author.Needs.{needs}
@@ -20,15 +19,21 @@ number-due-requires c κs = search needs
 returns : tie.Need-returns
 returns c = quick-refused _ _ _ _ _ _ (c .before .number-due .ensures) (c .if1 .taken) refl tt
 
-tally-requires : tie.Need-tally-requires
-tally-requires c κs = clear-whole (c .before .before .before .args .n) (now (c .before .before .before .args .buf)) (clear c)
+shape-requires : tie.Need-shape-requires
+shape-requires c κs = search needs
+
+count-hash-requires : tie.Need-count-hash-requires
+count-hash-requires c κs =
+    let a = c .before .before .before .before .args in
+    rw (c .shape .ensures) (clear-whole (a .n) (now (a .buf)) (clear (c .before)))
 
 returns-2 : tie.Need-returns-2
 returns-2 c =
-    let v = c .before in
+    let w = c .before in
+    let v = w .before in
     let a = v .before .before .before .args in
-    quick-worked _ _ _ _ _ (clear v) (λ l h. counted (a .n) (now (a .buf)) l (a .hash) _ (clear-whole (a .n) (now (a .buf)) (clear v) .widths) (c .tally .ensures) h) tt
+    quick-worked _ _ _ _ _ (clear v) (λ l h. counted (a .n) (now (a .buf)) l (a .hash) _ (clear-whole (a .n) (now (a .buf)) (clear v) .widths) (rw (w .shape .ensures) at (c .count-hash .ensures)) h) tt
 
 pub count-fingerprint-quick-spec : {M : Type 1} → statement M
 count-fingerprint-quick-spec =
-    tie.close (tie.spec number-due-requires returns tally-requires returns-2)
+    tie.close (tie.spec number-due-requires returns shape-requires count-hash-requires returns-2)

@@ -1,5 +1,5 @@
 -- `filter::contains::lookup_from`, case by case. Assumes nothing.
-use mathlib.Core.Path.{ap, sym, _∙_}
+use mathlib.Core.Path.{ap, sym}
 use Rattle.filter.specs.Asking.{lookupFrom}
 use borrow.Author.Needs.{needs}
 use Rattle.filter.proofs.contains.lookup_from.Statement.{statement}

@@ -2,8 +2,7 @@
 use mathlib.Core.Path.{subst}
 use denote.Ref.{now}
 use Rattle.theory.specs.Shape.{slots}
-use Rattle.theory.specs.number.Bytes.{le}
-use Rattle.theory.specs.layout.Block.{views}
+use Rattle.layout.specs.Whole.{viewsIn}
 use Rattle.bits.specs.declared.select.Found.the-variants.{At}
 use Rattle.filter.specs.Occupied.{NextOccupied}
 use Rattle.filter.specs.Moving.{none-first, missed-first, found-first}
@@ -13,7 +12,7 @@ use Rattle.filter.proofs.listing.first_place.Tie as tie
 
 -- the quotient that was found
 found : (c : tie.After-known-told)
-    → NextOccupied (slots (c .before .before .before .before .before .before .args .shape .qbits)) (views (c .before .before .before .before .before .before .args .shape .rbits) (le (now (c .before .before .before .before .before .before .args .buf)))) 0 (At (c .before .x .given .0 .0))
+    → NextOccupied (slots (c .before .before .before .before .before .before .args .shape .qbits)) (viewsIn (c .before .before .before .before .before .before .args .shape) (now (c .before .before .before .before .before .before .args .buf))) 0 (At (c .before .x .given .0 .0))
 found c = subst (NextOccupied _ _ _) (c .before .x .given .1) (c .before .before .before .next-occupied .ensures)
 
 none-left-requires : tie.Need-none-left-requires

@@ -2,7 +2,7 @@
 use Prim.Native.Nat.{_+_}
 use mathlib.Core.Path.{ap}
 use native.Mathlib.Omega.{arith}
-use Rattle.theory.specs.layout.Places.{join-high, join-lt}
+use Rattle.theory.specs.reading.ListingPlaces.{join-high, join-lt}
 use borrow.Author.Needs.{needs}
 use Rattle.filter.proofs.listing.joined.Statement.{statement}
 use Rattle.filter.proofs.listing.joined.Tie as tie

@@ -5,8 +5,9 @@ use native.Mathlib.Omega.{arith}
 use denote.Ref.{now}
 use Rattle.theory.specs.Shape.{slots, blocks}
 use Rattle.theory.specs.number.Bytes.{le}
-use Rattle.theory.specs.layout.Block.{views, wordAt, word-bit}
-use Rattle.theory.specs.layout.Sizes.{slots-blocks}
+use Rattle.theory.specs.images.Block.{wordAt, word-bit}
+use Rattle.layout.specs.Whole.{viewsIn}
+use Rattle.theory.specs.images.Sizes.{slots-blocks}
 use Rattle.bits.specs.Lowest.{LowestFrom}
 use Rattle.bits.specs.declared.select.Found.the-variants.{At, Nothing}
 use Rattle.filter.specs.Occupied.{Vacant, vacant-word}
@@ -16,7 +17,7 @@ use Rattle.filter.proofs.listing.next_occupied.Statement.{statement}
 use Rattle.filter.proofs.listing.next_occupied.Tie as tie
 
 abbrev Inv-loop : tie.InvT-loop
-Inv-loop buf shape from blocks b₀ skip₀ b skip = (from ≤ 64 * b + skip) × (skip < 64) × (b ≤ blocks) × Vacant (views (shape .rbits) (le buf)) from (64 * b + skip)
+Inv-loop buf shape from blocks b₀ skip₀ b skip = (from ≤ 64 * b + skip) × (skip < 64) × (b ≤ blocks) × Vacant (viewsIn shape buf) from (64 * b + skip)
 
 abbrev μ-loop : tie.MeasureT-loop
 μ-loop buf shape from blocks b₀ skip₀ b skip = blocks - b

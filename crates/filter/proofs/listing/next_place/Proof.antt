@@ -3,7 +3,7 @@ use mathlib.Core.Path.{sym, _∙_}
 use native.Mathlib.Omega.{arith}
 use denote.Ref.{now}
 use Rattle.filter.specs.Moving.{none-moves, inner-moves}
-use Rattle.theory.specs.layout.Sizes.{slots-high}
+use Rattle.theory.specs.images.Sizes.{slots-high}
 use borrow.Author.Needs.{needs}
 use Rattle.filter.proofs.listing.next_place.Statement.{statement}
 use Rattle.filter.proofs.listing.next_place.Tie as tie

@@ -4,8 +4,7 @@ use mathlib.Core.Path.{subst}
 use native.Mathlib.Omega.{arith}
 use denote.Ref.{now}
 use Rattle.theory.specs.Shape.{slots}
-use Rattle.theory.specs.number.Bytes.{le}
-use Rattle.theory.specs.layout.Block.{views}
+use Rattle.layout.specs.Whole.{viewsIn}
 use Rattle.bits.specs.declared.select.Found.the-variants.{At}
 use Rattle.filter.specs.Occupied.{NextOccupied}
 use Rattle.filter.specs.Moving.{end-moves, run-moves}
@@ -15,7 +14,7 @@ use Rattle.filter.proofs.listing.next_run.Tie as tie
 
 -- the quotient that was found
 found : (c : tie.After-known-told)
-    → NextOccupied (slots (c .before .before .before .before .before .before .args .shape .qbits)) (views (c .before .before .before .before .before .before .args .shape .rbits) (le (now (c .before .before .before .before .before .before .args .buf)))) (c .before .before .before .before .before .before .args .x + 1) (At (c .before .y .given .0 .0))
+    → NextOccupied (slots (c .before .before .before .before .before .before .args .shape .qbits)) (viewsIn (c .before .before .before .before .before .before .args .shape) (now (c .before .before .before .before .before .before .args .buf))) (c .before .before .before .before .before .before .args .x + 1) (At (c .before .y .given .0 .0))
 found c = subst (NextOccupied _ _ _) (c .before .y .given .1) (c .before .before .before .next-occupied .ensures)
 
 slots-requires : tie.Need-slots-requires
@@ -42,8 +41,8 @@ returns c =
     let m = subst (NextOccupied _ _ _) (c .before .enum-told .given .1) (c .before .before .before .next-occupied .ensures) in
     λ e. rw (c .none-left .ensures) (end-moves (a .shape) (now (a .buf)) (a .x) (a .s) (a .left) e m)
 
-unwrapped-requires : tie.Need-unwrapped-requires
-unwrapped-requires c κs = search needs
+unrolled-requires : tie.Need-unrolled-requires
+unrolled-requires c κs = search needs
 
 add-end : tie.Need-add-end
 add-end c = search needs
@@ -62,8 +61,7 @@ returns-2 c =
     let h = found b in
     let a = b .before .before .before .before .before .before .args in
     let m = b .before .before .before .before .slots .ensures .0 in
-    let u = c .before .before .unwrapped .ensures in
-    λ e. run-moves (a .shape) (now (a .buf)) (a .x) (a .s) (a .left) _ (c .before .before .unwrapped .result) _ e (h .0) (h .1) (h .2) (h .3) (u .0) (rw m at (u .1)) (rw (c .before .larger .ensures, m) at (c .wrapped .ensures))
+    λ e. run-moves (a .shape) (now (a .buf)) (a .x) (a .s) (a .left) _ (c .before .before .unrolled .result) _ e (h .0) (h .1) (h .2) (h .3) (rw m at (c .before .before .unrolled .ensures)) (rw (c .before .larger .ensures, m) at (c .wrapped .ensures))
 
 pub next-run-spec : {M : Type 1} → statement M
 next-run-spec =
@@ -76,7 +74,7 @@ next-run-spec =
     enum-told
     none-left-requires
     returns
-    unwrapped-requires
+    unrolled-requires
     add-end
     larger-requires
     wrapped-requires

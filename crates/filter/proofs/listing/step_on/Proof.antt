@@ -83,9 +83,6 @@ module _ {M : Type 1} (𝓤 : URA M) (H : Heap 𝓤) (A : Atoms 𝓤) (W : Given
   abbrev vp : Place → Val
   vp p = LL.val P.the-type P′.the-laws p
 
-  abbrev vr : Stepped → Val
-  vr r = LL.val R.the-type R′.the-laws r
-
   abbrev at : Vals step.signature (κ, (κ′, tt))
   at = (v ∷ [], (vn ∷ [], (vptr b o ∷ [], tt)))
 

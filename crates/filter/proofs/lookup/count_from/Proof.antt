@@ -1,26 +1,25 @@
 -- `filter::lookup::count_from`: the invariant is that k places are passed, and how many of them, from `from` on, are equal (specs/Scan). Assumes nothing.
-use Prim.Native.Nat.{ℕ, _+_, _-_, _%_, _≤_, _<_}
-use mathlib.Core.Path.{_≡_, sym, _∙_}
+use Prim.Native.Nat.{_+_, _-_, _%_, _<_}
+use mathlib.Core.Path.{sym, _∙_}
 use native.Mathlib.Omega.{arith}
 use native.Mathlib.Nat.{mod-lt}
 use denote.Ref.{now}
 use Rattle.theory.specs.Shape.{slots as slots-of}
 use Rattle.theory.specs.Image.{Views}
-use Rattle.theory.specs.number.Bytes.{le}
-use Rattle.theory.specs.layout.Block.{views}
-use Rattle.filter.specs.Scan.{Counting, counting-none, counting-on, counted-end, counted-round}
+use Rattle.layout.specs.Whole.{viewsIn}
+use Rattle.filter.specs.Scan.{Counting, counting-on, counted-end, counted-round}
 use borrow.Author.Needs.{needs}
 use Rattle.filter.proofs.lookup.count_from.Statement.{statement}
 use Rattle.filter.proofs.lookup.count_from.Tie as tie
 
 abbrev Inv-loop : tie.InvT-loop
-Inv-loop buf shape at from rem slots k₀ count₀ k count = (k < slots-of (shape .qbits)) × (Counting (slots-of (shape .qbits)) (views (shape .rbits) (le buf)) at from rem k count)
+Inv-loop buf shape at from rem slots k₀ count₀ k count = (k < slots-of (shape .qbits)) × (Counting (slots-of (shape .qbits)) (viewsIn shape buf) at from rem k count)
 
 abbrev μ-loop : tie.MeasureT-loop
 μ-loop buf shape at from rem slots k₀ count₀ k count = slots - k
 
 abbrev seen : tie.At-loop Inv-loop μ-loop → Views
-seen c = views (c .before .before .before .args .shape .rbits) (le (now (c .before .before .before .args .buf)))
+seen c = viewsIn (c .before .before .before .args .shape) (now (c .before .before .before .args .buf))
 
 -- the slot of the turn
 in-round : (c : tie.At-loop Inv-loop μ-loop) → (c .before .before .before .args .at + c .loop .k) % c .before .slots .result < slots-of (c .before .before .before .args .shape .qbits)

@@ -1,7 +1,7 @@
 -- `filter::lookup::quotient`: the qbits above the remainder. Assumes nothing.
-use mathlib.Core.Path.{_∙_, sym}
+use mathlib.Core.Path.{sym}
 use native.Mathlib.Nat.{mod-lt}
-use Rattle.theory.specs.layout.Sizes.{fingerprint-quotient, slots-pos}
+use Rattle.theory.specs.images.Sizes.{fingerprint-quotient, slots-pos}
 use borrow.Author.Needs.{needs}
 use Rattle.filter.proofs.lookup.quotient.Statement.{statement}
 use Rattle.filter.proofs.lookup.quotient.Tie as tie

@@ -1,8 +1,8 @@
 -- `filter::lookup::remainder`: the low rbits of the hash. Assumes nothing.
-use mathlib.Core.Path.{_∙_, sym}
+use mathlib.Core.Path.{sym}
 use native.Mathlib.Nat.{mod-lt}
 use lib.Pow.{pow-pos}
-use Rattle.theory.specs.layout.Sizes.{fingerprint-remainder}
+use Rattle.theory.specs.images.Sizes.{fingerprint-remainder}
 use borrow.Author.Needs.{needs}
 use Rattle.filter.proofs.lookup.remainder.Statement.{statement}
 use Rattle.filter.proofs.lookup.remainder.Tie as tie

@@ -1,15 +1,15 @@
 -- `filter::runs::behind_run`: the three ways of the code are those of specs/Runs. Assumes nothing.
-use Prim.Native.Nat.{_+_, _*_, _/_, _%_, _≤_, _<_}
-use mathlib.Core.Path.{_≡_, subst, _∙_, sym, ap}
+use Prim.Native.Nat.{_+_, _*_, _/_, _%_, _≤_}
+use mathlib.Core.Path.{_≡_, subst, _∙_, ap}
 use native.Mathlib.Omega.{arith}
 use denote.Ref.{now}
 use Rattle.theory.specs.Shape.{slots, blocks}
 use Rattle.theory.specs.number.Bytes.{le}
 use Rattle.theory.specs.number.Count.{rank}
-use Rattle.theory.specs.layout.Block.{wordAt}
-use Rattle.theory.specs.layout.Sizes.{slots-blocks, slots-high, slot-block}
+use Rattle.theory.specs.images.Block.{wordAt}
+use Rattle.theory.specs.images.Sizes.{slots-blocks, slots-high, slot-block}
 use Rattle.filter.specs.Runs.{NthRunend, behind-empty, behind-last, behind-missed}
-use Rattle.bits.specs.declared.select.Found.the-variants.{At, Nothing}
+use Rattle.bits.specs.declared.select.Found.the-variants.{At}
 use borrow.Author.Needs.{needs}
 use Rattle.filter.proofs.runs.behind_run.Statement.{statement}
 use Rattle.filter.proofs.runs.behind_run.Tie as tie

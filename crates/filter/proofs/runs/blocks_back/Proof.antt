@@ -1,16 +1,15 @@
 -- `filter::runs::blocks_back`: no byte passed tells its carry. Assumes nothing.
 use denote.Ref.{now}
-use Prim.Native.Nat.{ℕ, _+_, _-_, _*_, _%_, _≤_, _<_}
-use mathlib.Core.Path.{_≡_, sym, subst, ap, _∙_}
+use Prim.Native.Nat.{ℕ, _+_, _-_, _%_, _≤_, _<_}
+use mathlib.Core.Path.{_≡_}
 use native.Mathlib.Omega.{arith}
 use native.Mathlib.Nat.{mod-lt}
 use native.Mathlib.Decide.{ℕ-discrete}
 use borrow.Author.Needs.{needs}
 use Rattle.theory.specs.Shape.{blocks}
 use Rattle.theory.specs.number.Bytes.{le}
-use Rattle.theory.specs.layout.Block.{offsetAt}
-use Rattle.theory.specs.layout.Offsets.{back-all}
-use Rattle.theory.specs.layout.Sizes.{blocks-high}
+use Rattle.theory.specs.images.Block.{offsetAt}
+use Rattle.theory.specs.reading.Offsets.{back-all}
 use Rattle.filter.proofs.runs.blocks_back.Statement.{statement}
 use Rattle.filter.proofs.runs.blocks_back.Tie as tie
 

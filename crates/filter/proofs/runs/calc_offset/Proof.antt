@@ -1,41 +1,33 @@
 -- `filter::runs::calc_offset`: the invariant is that o is the carry before block j, round the end (specs/Offsets). Assumes nothing.
-use mathlib.Core.Path.{refl}
-use Prim.Native.Nat.{ℕ, _+_, _-_, _*_, _%_, _^_, _≤_, _<_}
-use mathlib.Core.Path.{_≡_, sym, subst, ap, _∙_}
+use Prim.Native.Nat.{_+_, _-_, _*_, _%_, _^_, _≤_}
+use mathlib.Core.Path.{_≡_, refl, sym, subst, ap, _∙_}
 use native.Mathlib.Omega.{arith}
 use native.Mathlib.Nat.{mod-lt}
 use denote.Ref.{now}
-use Rattle.theory.specs.Shape.{slots as slots-of, blocks as blocks-of}
-use Rattle.theory.specs.number.Bytes.{le}
-use Rattle.theory.specs.layout.Block.{views}
-use Rattle.theory.specs.layout.Sizes.{slots-blocks}
-use Rattle.filter.specs.Runs.{Behind, Back, Within}
-use Rattle.filter.specs.Offsets.{Tells, tells-byte, tells-next, tells-missed, tells-large, none-tells, tells-end}
-use Rattle.bits.specs.declared.select.Found.the-variants.{At, Nothing}
+use Rattle.theory.specs.Shape.{slots}
+use Rattle.layout.specs.Whole.{viewsIn}
+use Rattle.theory.specs.images.Sizes.{slots-blocks, slots-high}
+use Rattle.filter.specs.Runs.{NextCarry}
+use Rattle.theory.specs.reading.Walks.{Tells, tells-byte, none-tells, tells-end}
+use Rattle.filter.specs.Offsets.{tells-next, tells-missed}
+use Rattle.bits.specs.declared.select.Found.the-variants.{At}
 use borrow.Author.Needs.{needs}
 use Rattle.filter.proofs.runs.calc_offset.Statement.{statement}
 use Rattle.filter.proofs.runs.calc_offset.Tie as tie
 
 abbrev Inv-loop : tie.InvT-loop
-Inv-loop buf shape b slots blocks back j₀ o₀ j o = (j ≤ b + blocks) × (o ≤ 2 ^ 60) × Tells (slots-of (shape .qbits)) (views (shape .rbits) (le buf)) j o
+Inv-loop buf shape b blocks back j₀ o₀ j o = (j ≤ b + blocks) × (o ≤ 2 ^ 60) × Tells (slots (shape .qbits)) (viewsIn shape buf) j o
 
 abbrev μ-loop : tie.MeasureT-loop
-μ-loop buf shape b slots blocks back j₀ o₀ j o = b + blocks - j
+μ-loop buf shape b blocks back j₀ o₀ j o = b + blocks - j
 
 -- 64 slots for each of the blocks counted
-whole : (c : tie.After-blocks2 Inv-loop μ-loop) → slots-of (c .before .before .before .args .shape .qbits) ≡ 64 * c .blocks2 .result
-whole c = slots-blocks _ (c .before .before .before .pre .0 .widths .low) ∙ ap (λ z. 64 * z) (sym (c .blocks2 .ensures .0))
+whole : (c : tie.After-blocks2 Inv-loop μ-loop) → slots (c .before .before .args .shape .qbits) ≡ 64 * c .blocks2 .result
+whole c = slots-blocks _ (c .before .before .pre .0 .widths .low) ∙ ap (λ z. 64 * z) (sym (c .blocks2 .ensures .0))
 
--- the block j of the walk, round the end
-turn : (c : tie.In-loop Inv-loop μ-loop) → c .before .loop .j % c .before .before .before .before .before .blocks2 .result < c .before .before .before .before .before .blocks2 .result
-turn c = mod-lt (c .before .loop .j) (omega arith)
-
--- what the walk to the last slot of that block told
-found : (c : tie.After-known-told Inv-loop μ-loop) → Behind (slots-of (c .before .before .before .before .before .before .before .before .before .before .before .before .args .shape .qbits)) (views (c .before .before .before .before .before .before .before .before .before .before .before .before .args .shape .rbits) (le (now (c .before .before .before .before .before .before .before .before .before .before .before .before .args .buf)))) (64 * (c .before .before .before .before .before .loop .j % c .before .before .before .before .before .before .before .before .before .blocks2 .result) + 63) (c .before .before .before .before .before .loop .o) (At (c .before .s .given .0 .0))
-found c = subst (Behind _ _ _ _) (c .before .s .given .1) (c .before .before .before .behind-run .ensures)
-
-slots-requires : tie.Need-slots-requires Inv-loop μ-loop
-slots-requires c κs = search needs
+-- what the step to the next block told
+stepped : (c : tie.After-known-told Inv-loop μ-loop) → NextCarry (slots (c .before .before .before .before .before .before .before .before .before .before .before .args .shape .qbits)) (viewsIn (c .before .before .before .before .before .before .before .before .before .before .before .args .shape) (now (c .before .before .before .before .before .before .before .before .before .before .before .args .buf))) (c .before .before .before .before .before .loop .j % c .before .before .before .before .before .before .before .before .before .blocks2 .result) (c .before .before .before .before .before .loop .o) (At (c .before .next .given .0 .0))
+stepped c = subst (NextCarry _ _ _ _) (c .before .next .given .1) (c .before .before .before .next-carry .ensures)
 
 blocks-requires : tie.Need-blocks-requires Inv-loop μ-loop
 blocks-requires c κs = search needs
@@ -60,7 +52,7 @@ rem-offset-byte c = search needs
 offset-byte-requires : tie.Need-offset-byte-requires Inv-loop μ-loop
 offset-byte-requires c κs =
     let b = c .before .before in
-    (b .before .before .before .pre .0, omega (arith, mod-lt (b .before .before .before .args .b + b .blocks2 .result - c .before .blocks-back .result) {m = b .blocks2 .result} (omega arith)))
+    (b .before .before .pre .0, omega (arith, mod-lt (b .before .before .args .b + b .blocks2 .result - c .before .blocks-back .result) {m = b .blocks2 .result} (omega arith)))
 
 loop-holds : tie.Need-loop-holds Inv-loop μ-loop
 loop-holds c =
@@ -71,41 +63,24 @@ loop-holds c =
 add-loop : tie.Need-add-loop Inv-loop μ-loop
 add-loop c = search needs
 
-rem-first : tie.Need-rem-first Inv-loop μ-loop
-rem-first c = search needs
+rem-next-carry : tie.Need-rem-next-carry Inv-loop μ-loop
+rem-next-carry c = search needs
 
-mul-first : tie.Need-mul-first Inv-loop μ-loop
-mul-first c = omega (arith, turn c)
+next-carry-requires : tie.Need-next-carry-requires Inv-loop μ-loop
+next-carry-requires c κs =
+    let b = c .before .before .before .before .before in
+    (b .before .before .pre .0, omega (arith, b .blocks2 .ensures .0, mod-lt (c .before .loop .j) {m = b .blocks2 .result} (omega arith)), c .before .loop .inv .1)
 
-add-behind-run : tie.Need-add-behind-run Inv-loop μ-loop
-add-behind-run c = omega (arith, turn c)
-
-behind-run-requires : tie.Need-behind-run-requires Inv-loop μ-loop
-behind-run-requires c κs = (c .before .before .before .before .before .before .before .before .pre .0, omega (arith, turn c, whole (c .before .before .before .before .before)), c .before .loop .inv .1)
-
-enum-known-s : tie.Need-enum-known-s Inv-loop μ-loop
-enum-known-s c = search needs
+enum-known-next : tie.Need-enum-known-next Inv-loop μ-loop
+enum-known-next c = search needs
 
 enum-told : tie.Need-enum-told Inv-loop μ-loop
 enum-told c = search needs
 
 returns-2 : tie.Need-returns-2 Inv-loop μ-loop
 returns-2 c =
-    let l = c .before .before .before in
-    let b = l .before .before .before .before .before in
-    tells-missed _ _ _ (whole b) (omega arith) (l .before .loop .j) _ _ (l .before .loop .inv .2) (subst (Behind _ _ _ _) (c .enum-told .given .1) (c .before .before .behind-run .ensures))
-
-add-o : tie.Need-add-o Inv-loop μ-loop
-add-o c = omega (arith, turn (c .before .before .before .before))
-
-sub-o : tie.Need-sub-o Inv-loop μ-loop
-sub-o c = omega (arith, found c .bound)
-
-returns-3 : tie.Need-returns-3 Inv-loop μ-loop
-returns-3 c =
-    let l = c .before .before .before .before .before in
-    let b = l .before .before .before .before .before in
-    tells-large _ _ _ (whole b) (omega arith) (l .before .loop .j + 1) _ _ (tells-next _ _ _ (whole b) (omega arith) (l .before .loop .j) _ _ _ (l .before .loop .inv .2) (found (c .before)) refl) (omega arith)
+    let l = c .before .before .before .before in
+    tells-missed _ _ _ (whole (l .before .before .before .before)) (omega arith) (l .loop .j) _ _ (l .loop .inv .2) (subst (NextCarry _ _ _ _) (c .enum-told .given .1) (c .before .before .next-carry .ensures))
 
 add-j-2 : tie.Need-add-j-2 Inv-loop μ-loop
 add-j-2 c = search needs
@@ -116,14 +91,15 @@ loop-less c = search needs
 loop-again : tie.Need-loop-again Inv-loop μ-loop
 loop-again c =
     let l = c .before .before .before .before .before in
-    let b = l .before .before .before .before .before in
-    (omega arith, omega arith, tells-next _ _ _ (whole b) (omega arith) (l .before .loop .j) _ _ _ (l .before .loop .inv .2) (found (c .before)) refl)
+    let b = l .before .before .before .before in
+    let high = slots-high _ (b .before .before .pre .0 .widths .high) in
+    (omega arith, omega (arith, stepped c .bound), tells-next _ _ _ (whole b) (omega arith) (l .loop .j) _ _ (l .loop .inv .2) (stepped c))
 
-returns-4 : tie.Need-returns-4 Inv-loop μ-loop
-returns-4 c =
+returns-3 : tie.Need-returns-3 Inv-loop μ-loop
+returns-3 c =
     let l = c .before in
     let b = l .before .before .before .before in
-    let e : l .loop .j ≡ b .before .before .before .args .b + b .blocks2 .result = omega arith in
+    let e : l .loop .j ≡ b .before .before .args .b + b .blocks2 .result = omega arith in
     tells-end _ _ _ (whole b) (omega arith) _ _ (rw e at (l .loop .inv .2)) (l .loop .inv .1)
 
 pub calc-offset-spec : {M : Type 1} → statement M
@@ -132,7 +108,6 @@ calc-offset-spec =
     (tie.spec
     Inv-loop
     μ-loop
-    slots-requires
     blocks-requires
     blocks-back-requires
     returns
@@ -142,17 +117,12 @@ calc-offset-spec =
     offset-byte-requires
     loop-holds
     add-loop
-    rem-first
-    mul-first
-    add-behind-run
-    behind-run-requires
-    enum-known-s
+    rem-next-carry
+    next-carry-requires
+    enum-known-next
     enum-told
     returns-2
-    add-o
-    sub-o
-    returns-3
     add-j-2
     loop-less
     loop-again
-    returns-4)
+    returns-3)

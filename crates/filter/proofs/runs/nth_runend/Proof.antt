@@ -1,16 +1,15 @@
 -- `filter::runs::nth_runend`: a word a turn. The invariant: what was to be passed from `at` on is what is left from digit `skip` of block k on. Assumes nothing.
-use Rattle.theory.specs.layout.Block.{wordAt}
+use Rattle.theory.specs.images.Block.{wordAt}
 use denote.Ref.{now}
-use Prim.Native.Nat.{ℕ, _+_, _-_, _*_, _/_, _%_, _≤_, _<_}
+use Prim.Native.Nat.{_+_, _-_, _*_, _/_, _%_, _≤_, _<_}
 use mathlib.Core.Path.{_≡_, sym, subst, ap, _∙_}
-use mathlib.Core.Logic.{⊎-elim}
 use native.Mathlib.Omega.{arith}
 use native.Mathlib.Nat.{mod-lt}
 use Rattle.theory.specs.tools.Total.{total, total-le}
 use Rattle.theory.specs.Shape.{slots, blocks}
 use Rattle.theory.specs.number.Bytes.{le}
-use Rattle.theory.specs.layout.Ring.{ringAt, walk-on, walk-end, walk-bit}
-use Rattle.theory.specs.layout.Sizes.{slots-blocks}
+use Rattle.theory.specs.reading.Ring.{ringAt, walk-on, walk-end, walk-bit}
+use Rattle.theory.specs.images.Sizes.{slots-blocks}
 use Rattle.filter.specs.Runs.{InWord}
 use Rattle.filter.specs.declared.runs.InBlock.the-variants.{End, On}
 use borrow.Author.Needs.{needs}

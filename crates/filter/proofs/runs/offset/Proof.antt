@@ -1,7 +1,7 @@
 -- `filter::runs::offset`: the byte, or what stands behind 255. Assumes nothing.
 use native.Mathlib.Omega.{arith}
-use Rattle.theory.specs.layout.Sizes.{slots-blocks}
-use Rattle.filter.specs.Offsets.{byte-offset}
+use Rattle.theory.specs.images.Sizes.{slots-blocks}
+use Rattle.theory.specs.reading.Walks.{byte-offset}
 use borrow.Author.Needs.{needs}
 use Rattle.filter.proofs.runs.offset.Statement.{statement}
 use Rattle.filter.proofs.runs.offset.Tie as tie

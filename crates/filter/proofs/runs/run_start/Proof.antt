@@ -1,4 +1,4 @@
--- `filter::runs::run_start`: the counts in the words are those of specs/Near. Assumes nothing.
+-- `filter::runs::run_start`: the counts in the words are those of theory reading/StartNear. Assumes nothing.
 use Prim.Native.Nat.{ℕ, _+_, _-_, _*_, _/_, _%_, _^_, _<_}
 use mathlib.Core.Path.{_≡_, subst, ap, _∙_}
 use native.Mathlib.Omega.{arith}
@@ -6,11 +6,12 @@ use denote.Ref.{now}
 use Rattle.theory.specs.Shape.{slots, blocks}
 use Rattle.theory.specs.number.Bytes.{le}
 use Rattle.theory.specs.number.Count.{rank}
-use Rattle.theory.specs.layout.Block.{views, wordAt}
-use Rattle.theory.specs.layout.Sizes.{slots-blocks, slots-high, slot-block}
-use Rattle.filter.specs.Near.{Pending, pending-near, never-near, start-near, some-near}
+use Rattle.theory.specs.images.Block.{wordAt}
+use Rattle.layout.specs.Whole.{viewsIn}
+use Rattle.theory.specs.images.Sizes.{slots-blocks, slots-high, slot-block}
+use Rattle.theory.specs.reading.StartNear.{Pending, pending-near, never-near, start-near, some-near}
 use Rattle.bits.specs.Select.{Selected}
-use Rattle.bits.specs.declared.select.Found.the-variants.{At}
+use Rattle.bits.specs.declared.select.Nth.the-variants.{At}
 use borrow.Author.Needs.{needs}
 use Rattle.filter.proofs.runs.run_start.Statement.{statement}
 use Rattle.filter.proofs.runs.run_start.Tie as tie
@@ -37,7 +38,7 @@ begun c = c .before .ones-below .ensures .0 ∙ ap (λ w. rank w (c .before .bef
 over : (c : tie.After-ones-between) → c .ones-between .result + rank (runends-word (c .before .before .before .before .before .before .before)) (c .before .before .before .before .before .offset-byte .result) ≡ rank (runends-word (c .before .before .before .before .before .before .before)) (c .before .before .before .before .before .before .before .args .x % 64)
 over c = rw (c .before .before .before .runends .ensures) at (c .ones-between .ensures .0)
 
-pending : (c : tie.Else2) → Pending (slots (first c .args .shape .qbits)) (views (first c .args .shape .rbits) (le (now (first c .args .buf)))) (first c .args .x) (c .before .before .ones-below .result - c .before .ones-between .result)
+pending : (c : tie.Else2) → Pending (slots (first c .args .shape .qbits)) (viewsIn (first c .args .shape) (now (first c .args .buf))) (first c .args .x) (c .before .before .ones-below .result - c .before .ones-between .result)
 pending c =
     let b = c .before in
     pending-near _ _ _ _ _ (whole (first c)) (first c .pre .1) _ _ _ (b .before .before .before .before .before .offset-byte .ensures .0) (omega arith) (begun b) (over b) (omega arith)

@@ -1,11 +1,11 @@
 -- `filter::runs::runend_in`: select on the word shifted down by the digits that are skipped. Assumes nothing.
-use Prim.Native.Nat.{_+_, _/_, _^_, _≤_}
-use mathlib.Core.Path.{_≡_, subst}
+use Prim.Native.Nat.{_/_, _^_, _≤_}
+use mathlib.Core.Path.{subst}
 use native.Mathlib.Omega.{arith}
 use Rattle.theory.specs.number.Count.{rank}
-use Rattle.theory.specs.layout.Ring.{high-one, high-none}
+use Rattle.theory.specs.reading.Ring.{high-one, high-none}
 use Rattle.bits.specs.Select.{Selected}
-use Rattle.bits.specs.declared.select.Found.the-variants.{At, Nothing}
+use Rattle.bits.specs.declared.select.Nth.the-variants.{At}
 use borrow.Author.Needs.{needs}
 use Rattle.filter.proofs.runs.runend_in.Statement.{statement}
 use Rattle.filter.proofs.runs.runend_in.Tie as tie

@@ -3,8 +3,8 @@ use Prim.Native.Nat.{_≤_}
 use mathlib.Core.Path.{subst}
 use native.Mathlib.Omega.{arith}
 use Rattle.theory.specs.Shape.{slots}
-use Rattle.theory.specs.layout.Sizes.{slots-blocks, slots-high}
-use Rattle.filter.specs.Near.{start-told, start-missing}
+use Rattle.theory.specs.images.Sizes.{slots-blocks, slots-high}
+use Rattle.theory.specs.reading.StartNear.{start-told, start-missing}
 use Rattle.filter.specs.Runs.{NthRunend}
 use Rattle.bits.specs.declared.select.Found.the-variants.{At}
 use borrow.Author.Needs.{needs}

@@ -2,7 +2,7 @@
 use Prim.Native.Nat.{_-_}
 use native.Mathlib.Omega.{arith}
 use denote.Ref.{now}
-use Rattle.growth.proofs.Told.{no-fingerprint}
+use Rattle.growth.proofs.NoFingerprint.{no-fingerprint}
 use Rattle.growth.specs.Counting.{Counting, counting-none, counting-on, adds-all, adds-enough, adds-other}
 use borrow.Author.Needs.{needs}
 use Rattle.growth.proofs.adding.count_added.Statement.{statement}

@@ -4,7 +4,7 @@ use mathlib.Core.Path.{ap, ap₂, _∙_}
 use native.Mathlib.Omega.{arith}
 use native.Mathlib.Nat.{div-add-mod'}
 use Rattle.theory.specs.Shape.{fingerprint}
-use Rattle.theory.specs.layout.Places.{join-high, join-lt}
+use Rattle.theory.specs.reading.ListingPlaces.{join-high, join-lt}
 use borrow.Author.Needs.{needs}
 use Rattle.growth.proofs.adding.cut.Statement.{statement}
 use Rattle.growth.proofs.adding.cut.Tie as tie

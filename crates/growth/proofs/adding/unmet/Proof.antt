@@ -2,7 +2,7 @@
 use Prim.Native.Nat.{_-_}
 use mathlib.Core.Path.{sym, _∙_}
 use denote.Ref.{now}
-use Rattle.growth.proofs.Told.{no-fingerprint}
+use Rattle.growth.proofs.NoFingerprint.{no-fingerprint}
 use Rattle.growth.specs.Counting.{Passing, passing-none, passing-on, unmet-other, unmet-hit, unmet-end}
 use borrow.Author.Needs.{needs}
 use Rattle.growth.proofs.adding.unmet.Statement.{statement}

@@ -1,6 +1,6 @@
 -- `growth::merge::copy`: the bytes passed are the buffer's. Assumes nothing.
 use Prim.Native.Nat.{_-_, _≤_}
-use mathlib.Core.Path.{_≡_, refl, sym, ap, ap₂, _∙_}
+use mathlib.Core.Path.{_≡_, refl, sym, ap, _∙_}
 use mathlib.Core.List.{_++_, _∷_, []}
 use native.Mathlib.Numerals.{add-one}
 use native.Mathlib.Omega.{arith}

@@ -1,13 +1,9 @@
 -- `growth::merge::joined_qbits`: the walk of `widthFrom`. Assumes nothing.
-use Prim.Native.Nat.{ℕ, suc, _≤_, _<_, _-_, _+_}
-use mathlib.Core.Path.{_≡_, refl, sym, ap, _∙_}
-use native.Mathlib.Omega.{arith}
-use Rattle.theory.specs.Shape.{capacity}
-use Rattle.theory.specs.Planning.{widthFrom}
-use Rattle.theory.specs.plan.Needed.{width-here, width-next}
-use Rattle.growth.specs.Limits.{width-past, width-on}
 use Prim.Native.Nat.{suc, _≤_, _-_, _+_}
-use mathlib.Core.Path.{_≡_, refl, sym, _∙_}
+use mathlib.Core.Path.{_≡_, sym, ap, _∙_}
+use native.Mathlib.Omega.{arith}
+use Rattle.theory.specs.Planning.{widthFrom}
+use Rattle.theory.specs.plan.Needed.{width-here, width-on, width-past}
 use Rattle.growth.proofs.merge.joined_qbits.Statement.{statement}
 use Rattle.growth.proofs.merge.joined_qbits.Tie as tie
 
@@ -23,16 +19,16 @@ loop-holds c =
     let e : a .last + 1 - a .first ≡ suc (a .last - a .first) = omega (arith, c .pre .1) in
     (omega arith, omega (arith, c .pre .1), ap (λ k. widthFrom k (a .first) (a .wanted)) e)
 
-capacity-requires : tie.Need-capacity-requires Inv-loop μ-loop
-capacity-requires c κs =
+capacity-of-requires : tie.Need-capacity-of-requires Inv-loop μ-loop
+capacity-of-requires c κs =
     let l = c .before in
     let p = l .before .pre in
-    record { low = omega (arith, p .0, l .loop .inv .0); high = omega (arith, p .2); some = omega arith; sum = omega (arith, p .2) }
+    (omega (arith, p .0, l .loop .inv .0), omega (arith, p .2))
 
 returns : tie.Need-returns Inv-loop μ-loop
 returns c =
     let l = c .before .before .before in
-    (sym (width-here _ _ _ (omega (arith, c .before .capacity .ensures .0))) ∙ l .loop .inv .2, l .loop .inv .0)
+    (sym (width-here _ _ _ (omega (arith, c .before .capacity-of .ensures))) ∙ l .loop .inv .2, l .loop .inv .0)
 
 add-qbits : tie.Need-add-qbits Inv-loop μ-loop
 add-qbits c = omega (arith, c .before .before .before .before .pre .2)
@@ -44,7 +40,7 @@ loop-again : tie.Need-loop-again Inv-loop μ-loop
 loop-again c =
     let l = c .before .before .before in
     let a = l .before .args in
-    (omega (arith, l .loop .inv .0), omega arith, sym (width-on (a .last) (l .loop .qbits) (a .wanted) (omega arith) (omega (arith, c .before .capacity .ensures .0, c .if1 .left))) ∙ l .loop .inv .2)
+    (omega (arith, l .loop .inv .0), omega arith, sym (width-on (a .last) (l .loop .qbits) (a .wanted) (omega arith) (omega (arith, c .before .capacity-of .ensures, c .if1 .left))) ∙ l .loop .inv .2)
 
 returns-2 : tie.Need-returns-2 Inv-loop μ-loop
 returns-2 c =
@@ -58,7 +54,7 @@ joined-qbits-spec =
     Inv-loop
     μ-loop
     loop-holds
-    capacity-requires
+    capacity-of-requires
     returns
     add-qbits
     loop-less

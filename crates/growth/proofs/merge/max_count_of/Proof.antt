@@ -2,7 +2,6 @@
 use mathlib.Core.Path.{sym, ap}
 use Rattle.growth.specs.Merging.{mostOf, most-all}
 use mathlib.Core.Path.{sym}
-use native.Mathlib.Omega.{arith}
 use Rattle.growth.proofs.merge.max_count_of.Statement.{statement}
 use Rattle.growth.proofs.merge.max_count_of.Tie as tie
 

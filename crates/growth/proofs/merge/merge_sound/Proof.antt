@@ -1,8 +1,7 @@
 -- `growth::merge::merge_sound`: by the widths. Assumes nothing.
 use native.Mathlib.Omega.{arith}
-use lib.ListN.{length}
 use denote.Ref.{now}
-use Rattle.theory.specs.check.Refusals.{none-due}
+use Rattle.layout.specs.Judging.{clear-of}
 use Rattle.growth.specs.Merging.{sound-narrower, sound-equal, sound-wider}
 use borrow.Author.Needs.{needs}
 use Rattle.growth.proofs.merge.merge_sound.Statement.{statement}
@@ -12,13 +11,13 @@ add-width : tie.Need-add-width
 add-width c =
     let s = c .before .before .before .before in
     let n = s .args .n in
-    omega (arith, none-due (n .qbits) (n .rbits) (n .len) (n .«max_qbits») (length (now (s .args .buf))) (s .pre .0) .widths .sum)
+    omega (arith, clear-of n (now (s .args .buf)) (s .pre .0) .widths .sum)
 
 add-other-width : tie.Need-add-other-width
 add-other-width c =
     let s = c .before .before .before .before .before in
     let m = s .args .m in
-    omega (arith, none-due (m .qbits) (m .rbits) (m .len) (m .«max_qbits») (length (now (s .args .other))) (s .pre .1) .widths .sum)
+    omega (arith, clear-of m (now (s .args .other)) (s .pre .1) .widths .sum)
 
 returns : tie.Need-returns
 returns c =

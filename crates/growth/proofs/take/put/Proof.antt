@@ -1,6 +1,5 @@
 -- `growth::take::put`: the insert's answer tells how many are held. Assumes nothing.
 use mathlib.Core.Path.{subst}
-use native.Mathlib.Omega.{arith}
 use denote.Ref.{now}
 use Rattle.writing.specs.declared.insert.Insertion.{Insertion}
 use Rattle.growth.specs.Take.{Puts, heldAfter, put-done}

@@ -1,5 +1,4 @@
 -- `growth::take::take_in`: the loop keeps `Takes`. Assumes nothing.
-use Prim.Native.Nat.{_+_, _≤_}
 use mathlib.Core.Path.{_≡_, refl, _∙_}
 use native.Mathlib.Omega.{arith}
 use lib.ListN.{length}

@@ -1,7 +1,7 @@
 -- `growth::union::union_len`: both counts are below slots, and their sum is the length (specs/Union). Assumes nothing.
 use native.Mathlib.Omega.{arith}
 use denote.Ref.{now}
-use Rattle.theory.specs.layout.Sizes.{slots-high}
+use Rattle.theory.specs.images.Sizes.{slots-high}
 use Rattle.growth.specs.Union.{united}
 use borrow.Author.Needs.{needs}
 use Rattle.growth.proofs.union.union_len.Statement.{statement}

@@ -1,6 +1,6 @@
 -- `growth::wider::excess`: capacity is below slots, so the sum fits. Assumes nothing.
 use native.Mathlib.Omega.{arith}
-use Rattle.theory.specs.layout.Sizes.{slots-high}
+use Rattle.theory.specs.images.Sizes.{slots-high}
 use borrow.Author.Needs.{needs}
 use Rattle.growth.proofs.wider.excess.Statement.{statement}
 use Rattle.growth.proofs.wider.excess.Tie as tie

@@ -1,6 +1,6 @@
--- `growth::wider::wider_due`: b has too few, all are added, or the count decides (specs/Wider). Assumes nothing.
+-- `growth::wider::wider_due`: b has too few, all are added, or the count decides (specs/WiderDue). Assumes nothing.
 use denote.Ref.{now}
-use Rattle.growth.specs.Wider.{wider-few, wider-all, wider-room, wider-passed}
+use Rattle.growth.specs.WiderDue.{wider-few, wider-all, wider-room, wider-passed}
 use borrow.Author.Needs.{needs}
 use Rattle.growth.proofs.wider.wider_due.Statement.{statement}
 use Rattle.growth.proofs.wider.wider_due.Tie as tie

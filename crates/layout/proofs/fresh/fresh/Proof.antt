@@ -4,9 +4,9 @@ use native.Mathlib.Omega.{arith}
 use lib.ListN.{replicate}
 use Rattle.theory.specs.Shape.{Widths, bytes}
 use Rattle.theory.specs.Refusal.{maxDue}
-use Rattle.theory.specs.check.Refusals.{widths-none, none-widths}
-use Rattle.theory.specs.plan.Due.{fresh-one, fresh-four, fresh-twelve, fresh-none}
-use Rattle.theory.specs.plan.Empty.{image-empty}
+use Rattle.theory.specs.refusals.ByNumber.{widths-none, none-widths}
+use Rattle.theory.specs.refusals.PlanRefused.{fresh-one, fresh-four, fresh-twelve, fresh-none}
+use Rattle.theory.specs.images.EmptyImage.{image-empty}
 use Rattle.layout.specs.Shapes.{ShapedAs}
 use Rattle.layout.specs.declared.shape.Shaped.the-variants.{Of, Refused}
 use borrow.Author.Needs.{needs}
@@ -64,17 +64,20 @@ returns-3 c =
 clear-requires : tie.Need-clear-requires
 clear-requires c κs = search needs
 
+empty-requires : tie.Need-empty-requires
+empty-requires c κs = search needs
+
 same-length : tie.Need-same-length
 same-length c = search needs
 
 returns-4 : tie.Need-returns-4
 returns-4 c =
-    let d = c .before .before .before .before in
+    let d = c .before .before .before .before .before in
     let m = made (d .before .before .before .before) in
     let size = d .if2 .left ∙ room (d .before) in (
       fresh-none _ _ _ _ (none-widths _ _ (m .0)) (max-none (d .before .before)) size,
-      record { len-is = refl; qbits-is = refl; rbits-is = refl; max-is = refl },
-      c .before .before .clear .ensures ∙ ap (λ n. replicate n 0) size ∙ sym (image-empty _ _),
+      rw (c .empty .ensures) (record { len-is = refl; qbits-is = refl; rbits-is = refl; max-is = refl }),
+      c .before .before .before .clear .ensures ∙ ap (λ n. replicate n 0) size ∙ sym (image-empty _ _),
     )
 
 pub fresh-spec : {M : Type 1} → statement M
@@ -90,5 +93,6 @@ fresh-spec =
     buffer-len-requires
     returns-3
     clear-requires
+    empty-requires
     same-length
     returns-4)

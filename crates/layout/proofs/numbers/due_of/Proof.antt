@@ -1,10 +1,7 @@
 -- `layout::numbers::due_of`: numbers 2 to 5, lowest first. Assumes nothing.
-use mathlib.Core.Path.{_≡_, sym, _∙_}
-use Prim.Native.Nat.{_≤_}
+use mathlib.Core.Path.{sym, _∙_}
 use native.Mathlib.Omega.{arith}
-use Rattle.theory.specs.Shape.{slots, bytes}
-use Rattle.theory.specs.Refusal.{maxDue}
-use Rattle.theory.specs.check.Refusals.{due-size, due-len, due-max, due-full, full-due, full-none, max-four}
+use Rattle.theory.specs.refusals.ByNumber.{due-size, due-len, due-max, due-full, full-due, full-none, max-four}
 use borrow.Author.Needs.{needs}
 use Rattle.layout.proofs.numbers.due_of.Statement.{statement}
 use Rattle.layout.proofs.numbers.due_of.Tie as tie

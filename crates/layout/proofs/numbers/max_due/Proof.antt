@@ -1,7 +1,7 @@
 -- `layout::numbers::max_due`: number 4, question by question. Assumes nothing.
 use mathlib.Core.Path.{sym}
 use native.Mathlib.Omega.{arith}
-use Rattle.theory.specs.check.Refusals.{max-absent, max-good, max-bad}
+use Rattle.theory.specs.refusals.ByNumber.{max-absent, max-good, max-bad}
 use borrow.Author.Needs.{needs}
 use Rattle.layout.proofs.numbers.max_due.Statement.{statement}
 use Rattle.layout.proofs.numbers.max_due.Tie as tie

@@ -1,9 +1,7 @@
 -- `layout::numbers::number_due`: number 1, then 2 to 5. Assumes nothing.
-use mathlib.Core.Path.{_≡_, sym, subst, _∙_}
-use Prim.Native.Nat.{_<_}
+use mathlib.Core.Path.{sym, subst, _∙_}
 use native.Mathlib.Omega.{arith}
-use Rattle.theory.specs.Shape.{Widths}
-use Rattle.theory.specs.check.Refusals.{due-one, due-rest, none-widths, widths-none}
+use Rattle.theory.specs.refusals.ByNumber.{due-one, due-rest, none-widths, widths-none}
 use Rattle.layout.specs.Shapes.{ShapedAs}
 use Rattle.layout.specs.declared.shape.Shaped.the-variants.{Of, Refused}
 use borrow.Author.Needs.{needs}

@@ -3,7 +3,7 @@ use Prim.Native.Nat.{_+_, _≤_}
 use mathlib.Core.Path.{subst}
 use native.Mathlib.Omega.{arith}
 use Rattle.theory.specs.plan.Needed.{needed-low, needed-high}
-use Rattle.theory.specs.plan.Due.{none-capacity, some-capacity, specs-ten, specs-nine, specs-none}
+use Rattle.theory.specs.refusals.PlanRefused.{none-capacity, some-capacity, specs-ten, specs-nine, specs-none}
 use Rattle.layout.specs.Plans.{NeededAs}
 use Rattle.layout.specs.declared.planning.Needed.the-variants.{Qbits, Refused}
 use borrow.Author.Needs.{needs}

@@ -1,6 +1,6 @@
 -- `layout::planning::needed_qbits`: number 10 exactly above the limit. Assumes nothing.
 use native.Mathlib.Omega.{arith}
-use Rattle.theory.specs.plan.Due.{capacity-due, capacity-none}
+use Rattle.theory.specs.refusals.PlanRefused.{capacity-due, capacity-none}
 use borrow.Author.Needs.{needs}
 use Rattle.layout.proofs.planning.needed_qbits.Statement.{statement}
 use Rattle.layout.proofs.planning.needed_qbits.Tie as tie

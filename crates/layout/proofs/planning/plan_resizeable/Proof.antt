@@ -5,7 +5,7 @@ use native.Mathlib.Omega.{arith}
 use Rattle.theory.specs.tools.Cases.{by-eq}
 use Rattle.theory.specs.Planning.{neededQbits, plannedRbits}
 use Rattle.theory.specs.plan.Needed.{needed-high, needed-mono}
-use Rattle.theory.specs.plan.Due.{none-capacity, some-capacity, plan-eleven, plan-ten, plan-nine, plan-none, planned-none, planned-some}
+use Rattle.theory.specs.refusals.PlanRefused.{none-capacity, some-capacity, plan-eleven, plan-ten, plan-nine, plan-none, planned-none, planned-some}
 use Rattle.layout.specs.Plans.{NeededAs}
 use Rattle.layout.specs.declared.planning.Needed.the-variants.{Qbits, Refused}
 use borrow.Author.Needs.{needs}
@@ -71,19 +71,23 @@ returns-3 c =
 max-for-requires : tie.Need-max-for-requires
 max-for-requires c κs = search needs
 
+empty-requires : tie.Need-empty-requires
+empty-requires c κs = search needs
+
 returns-4 : tie.Need-returns-4
 returns-4 c =
-    let f = found (c .before .before .before .before) in
-    let w = c .before .before .before .width-for .ensures .0 in
-    let m = c .max-for .ensures in (
-      plan-none _ _ _ (omega arith) (none-capacity _ (f .0)) (rw (rbits (c .before .before), w) at (sum c)),
-      record {
+    let d = c .before in
+    let f = found (d .before .before .before .before) in
+    let w = d .before .before .before .width-for .ensures .0 in
+    let m = d .max-for .ensures in (
+      plan-none _ _ _ (omega arith) (none-capacity _ (f .0)) (rw (rbits (d .before .before), w) at (sum d)),
+      rw (c .empty .ensures) (record {
         len-is = refl;
         qbits-is = w;
-        rbits-is = rbits (c .before .before);
+        rbits-is = rbits (d .before .before);
         max-is = by-eq (neededQbits _) (neededQbits _) (λ e. m .0 (w ∙ sym e ∙ sym (f .1)) ∙ sym (planned-none _ _ e))
-            (λ e. m .1 (λ d. e (sym (f .1) ∙ sym d ∙ w)) ∙ f .1 ∙ sym (planned-some _ _ e));
-      },
+            (λ e. m .1 (λ z. e (sym (f .1) ∙ sym z ∙ w)) ∙ f .1 ∙ sym (planned-some _ _ e));
+      }),
     )
 
 pub plan-resizeable-spec : {M : Type 1} → statement M
@@ -102,4 +106,5 @@ plan-resizeable-spec =
     add-if2
     returns-3
     max-for-requires
+    empty-requires
     returns-4)

@@ -1,8 +1,6 @@
 -- `layout::slot::block_start`: the block lies in the buffer, so its place is in range. Assumes nothing.
-use Prim.Native.Nat.{_+_, _*_}
-use mathlib.Core.Path.{_≡_}
 use native.Mathlib.Omega.{arith}
-use Rattle.theory.specs.layout.Sizes.{bytes-high, block-in}
+use Rattle.theory.specs.images.Sizes.{bytes-high, block-in}
 use mathlib.Core.Path.{refl}
 use borrow.Author.Needs.{needs}
 use Rattle.layout.proofs.slot.block_start.Statement.{statement}

@@ -1,7 +1,6 @@
 -- `layout::slot::get_cell`: a packed number of the slot's block. Assumes nothing.
-use mathlib.Core.Path.{_∙_}
-use Rattle.theory.specs.layout.Block.{cellAt, spot}
-use Rattle.theory.specs.layout.Sizes.{slot-block}
+use Rattle.theory.specs.images.Block.{cellAt, spot}
+use Rattle.theory.specs.images.Sizes.{slot-block}
 use borrow.Author.Needs.{needs}
 use Rattle.layout.proofs.slot.get_cell.Statement.{statement}
 use Rattle.layout.proofs.slot.get_cell.Tie as tie

@@ -5,8 +5,8 @@ use native.Mathlib.Omega.{arith}
 use denote.Ref.{now}
 use Rattle.theory.specs.number.Bytes.{le}
 use Rattle.theory.specs.number.Field.{field}
-use Rattle.theory.specs.layout.Block.{word-bit}
-use Rattle.theory.specs.layout.Sizes.{slot-block}
+use Rattle.theory.specs.images.Block.{word-bit}
+use Rattle.theory.specs.images.Sizes.{slot-block}
 use borrow.Author.Needs.{needs}
 use Rattle.layout.proofs.slot.is_runend.Statement.{statement}
 use Rattle.layout.proofs.slot.is_runend.Tie as tie

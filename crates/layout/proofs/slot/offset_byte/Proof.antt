@@ -1,5 +1,5 @@
 -- `layout::slot::offset_byte`: the first byte of the block. Assumes nothing.
-use Rattle.theory.specs.layout.Block.{offsetAt}
+use Rattle.theory.specs.images.Block.{offsetAt}
 use borrow.Author.Needs.{needs}
 use Rattle.layout.proofs.slot.offset_byte.Statement.{statement}
 use Rattle.layout.proofs.slot.offset_byte.Tie as tie

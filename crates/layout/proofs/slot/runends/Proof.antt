@@ -1,5 +1,5 @@
 -- `layout::slot::runends`: a word of the block. Assumes nothing.
-use Rattle.theory.specs.layout.Block.{wordAt}
+use Rattle.theory.specs.images.Block.{wordAt}
 use borrow.Author.Needs.{needs}
 use Rattle.layout.proofs.slot.runends.Statement.{statement}
 use Rattle.layout.proofs.slot.runends.Tie as tie

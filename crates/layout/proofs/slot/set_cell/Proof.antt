@@ -1,6 +1,6 @@
 -- `layout::slot::set_cell`: a packed number of the slot's block. Assumes nothing.
-use Rattle.theory.specs.layout.Block.{spot}
-use Rattle.theory.specs.layout.Sizes.{slot-block}
+use Rattle.theory.specs.images.Block.{spot}
+use Rattle.theory.specs.images.Sizes.{slot-block}
 use borrow.Author.Needs.{needs}
 use Rattle.layout.proofs.slot.set_cell.Statement.{statement}
 use Rattle.layout.proofs.slot.set_cell.Tie as tie

@@ -1,5 +1,4 @@
 -- `vectors::changing::many`: a call fewer is left with each turn, and the buffer's length stays. Assumes nothing.
-use Prim.Native.Nat.{_≤_}
 use mathlib.Core.Path.{_≡_}
 use native.Mathlib.Omega.{arith}
 use lib.ListN.{length}

@@ -1,6 +1,6 @@
 -- `vectors::planning::rate_of`: a pattern that passes the test is a number's. Assumes nothing.
 use native.Mathlib.Omega.{arith}
-use Rattle.vectors.proofs.Floats.{at-most-infinity}
+use Rattle.theory.specs.number.Floats.{at-most-infinity}
 use borrow.Author.Needs.{needs}
 use Rattle.vectors.proofs.planning.rate_of.Statement.{statement}
 use Rattle.vectors.proofs.planning.rate_of.Tie as tie

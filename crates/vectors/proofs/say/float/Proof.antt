@@ -1,7 +1,7 @@
 -- `vectors::say::float`: what is not a number does not equal itself. Assumes nothing.
 use mathlib.Core.Path.{sym, subst}
 use lib.Dec.{T}
-use Rattle.vectors.proofs.Floats.{equals-itself}
+use Rattle.theory.specs.number.Floats.{equals-itself}
 use borrow.Author.Needs.{needs}
 use Rattle.vectors.proofs.say.float.Statement.{statement}
 use Rattle.vectors.proofs.say.float.Tie as tie

@@ -1,13 +1,12 @@
--- `writing::insert::find_spot`: an empty run, or where the scan of the run stopped (specs/Spots). Assumes nothing.
-use Prim.Native.Nat.{_≤_}
-use mathlib.Core.Path.{_≡_, sym, subst, _∙_}
+-- `writing::insert::find_spot`: an empty run, or where the scan of the run stopped (specs/CopyIn). Assumes nothing.
+use mathlib.Core.Path.{sym, subst, _∙_}
 use native.Mathlib.Omega.{arith}
 use denote.Ref.{now}
 use Rattle.theory.specs.Shape.{slots}
-use Rattle.writing.specs.Spots.{Scanned, Unrolled, spot-new, spot-inside, spot-end}
-use Rattle.theory.specs.number.Bytes.{le}
-use Rattle.theory.specs.layout.Block.{views}
-use Rattle.theory.specs.layout.Sizes.{slots-high}
+use Rattle.theory.specs.reading.Walks.{Unrolled}
+use Rattle.writing.specs.CopyIn.{Scanned, spot-new, spot-inside, spot-end}
+use Rattle.layout.specs.Whole.{viewsIn}
+use Rattle.theory.specs.images.Sizes.{slots-high}
 use Rattle.writing.specs.declared.insert.Stop.{Stop}
 use Rattle.writing.specs.declared.insert.Stop.the-variants.{Inside, AtEnd}
 use borrow.Author.Needs.{needs}
@@ -20,7 +19,7 @@ began c = rw (c .before .slots .ensures .0) at (c .unrolled .ensures)
 
 -- where the scan of the run stopped
 abbrev Told : tie.After-scan → Stop → Type 0
-Told c a = Scanned (slots (c .before .before .before .before .before .before .before .args .shape .qbits)) (views (c .before .before .before .before .before .before .before .args .shape .rbits) (le (now (c .before .before .before .before .before .before .before .args .buf)))) (c .before .before .before .before .before .run-start .result) (c .before .before .before .before .before .before .before .args .rem) a
+Told c a = Scanned (slots (c .before .before .before .before .before .before .before .args .shape .qbits)) (viewsIn (c .before .before .before .before .before .before .before .args .shape) (now (c .before .before .before .before .before .before .before .args .buf))) (c .before .before .before .before .before .run-start .result) (c .before .before .before .before .before .before .before .args .rem) a
 
 inside : (c : tie.After-known-told) → Told (c .before .before .before) (Inside (c .before .stop .given .0 .0) (c .before .stop .given .0 .1 .0))
 inside c = subst (Told (c .before .before .before)) (c .before .stop .given .1) (c .before .before .before .scan .ensures)

@@ -1,12 +1,10 @@
 -- `writing::insert::insert_core`: each way out is a case of the rule (specs/Insert). Assumes nothing.
-use Rattle.theory.specs.layout.Sizes.{slots-pos}
-use Prim.Native.Nat.{_≤_, _<_}
-use mathlib.Core.Path.{_≡_, subst, sym}
+use Rattle.theory.specs.images.Sizes.{slots-pos}
+use mathlib.Core.Path.{subst}
 use native.Mathlib.Omega.{arith}
 use denote.Ref.{now}
 use Rattle.theory.specs.Shape.{slots}
-use Rattle.theory.specs.number.Bytes.{le}
-use Rattle.theory.specs.layout.Block.{views}
+use Rattle.layout.specs.Whole.{viewsIn}
 use Rattle.filter.specs.Runs.{FreeFrom}
 use Rattle.writing.specs.Insert.{core-enough, core-full, core-missed, core-before, core-added}
 use Rattle.bits.specs.declared.select.Found.{Found}
@@ -17,7 +15,7 @@ use Rattle.writing.proofs.insert.insert_core.Tie as tie
 
 -- the buffer and the quotient at the place where the free slot is looked for
 abbrev Free : tie.After-first-free → Found → Type 0
-Free c a = FreeFrom (slots (c .before .before .before .before .before .before .before .before .before .before .before .before .args .shape .qbits)) (views (c .before .before .before .before .before .before .before .before .before .before .before .before .args .shape .rbits) (le (now (c .before .before .before .before .before .before .before .before .before .before .before .before .args .buf)))) (c .before .before .before .before .before .before .before .before .before .before .quotient .result) a
+Free c a = FreeFrom (slots (c .before .before .before .before .before .before .before .before .before .before .before .before .args .shape .qbits)) (viewsIn (c .before .before .before .before .before .before .before .before .before .before .before .before .args .shape) (now (c .before .before .before .before .before .before .before .before .before .before .before .before .args .buf))) (c .before .before .before .before .before .before .before .before .before .before .quotient .result) a
 
 found : (c : tie.After-known-told) → Free (c .before .before .before) (At (c .before .e .given .0 .0))
 found c = subst (Free (c .before .before .before)) (c .before .e .given .1) (c .before .before .before .first-free .ensures)

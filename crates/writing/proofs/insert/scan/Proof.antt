@@ -1,26 +1,25 @@
--- `writing::insert::scan`: the invariant is that k places are passed, none larger, and how many of them are equal (specs/Spots). Assumes nothing.
-use Prim.Native.Nat.{ℕ, _+_, _-_, _%_, _≤_, _<_}
-use mathlib.Core.Path.{_≡_, sym, _∙_}
+-- `writing::insert::scan`: the invariant is that k places are passed, none larger, and how many of them are equal (specs/CopyIn). Assumes nothing.
+use Prim.Native.Nat.{_+_, _-_, _%_, _<_}
+use mathlib.Core.Path.{sym, _∙_}
 use native.Mathlib.Omega.{arith}
 use native.Mathlib.Nat.{mod-lt}
 use denote.Ref.{now}
 use Rattle.theory.specs.Shape.{slots as slots-of}
 use Rattle.theory.specs.Image.{Views}
-use Rattle.theory.specs.number.Bytes.{le}
-use Rattle.theory.specs.layout.Block.{views}
-use Rattle.writing.specs.Spots.{Scanning, scanning-none, scanned-inside, scanned-end, scanning-on, scanned-round}
+use Rattle.layout.specs.Whole.{viewsIn}
+use Rattle.writing.specs.CopyIn.{Scanning, scanned-inside, scanned-end, scanning-on, scanned-round}
 use borrow.Author.Needs.{needs}
 use Rattle.writing.proofs.insert.scan.Statement.{statement}
 use Rattle.writing.proofs.insert.scan.Tie as tie
 
 abbrev Inv-loop : tie.InvT-loop
-Inv-loop buf shape at rem slots k₀ copies₀ k copies = (k < slots-of (shape .qbits)) × (Scanning (slots-of (shape .qbits)) (views (shape .rbits) (le buf)) at rem k copies)
+Inv-loop buf shape at rem slots k₀ copies₀ k copies = (k < slots-of (shape .qbits)) × (Scanning (slots-of (shape .qbits)) (viewsIn shape buf) at rem k copies)
 
 abbrev μ-loop : tie.MeasureT-loop
 μ-loop buf shape at rem slots k₀ copies₀ k copies = slots - k
 
 abbrev seen : tie.At-loop Inv-loop μ-loop → Views
-seen c = views (c .before .before .before .args .shape .rbits) (le (now (c .before .before .before .args .buf)))
+seen c = viewsIn (c .before .before .before .args .shape) (now (c .before .before .before .args .buf))
 
 -- the slot of the turn
 in-round : (c : tie.At-loop Inv-loop μ-loop) → (c .before .before .before .args .at + c .loop .k) % c .before .slots .result < slots-of (c .before .before .before .args .shape .qbits)

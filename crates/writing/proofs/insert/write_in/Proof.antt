@@ -1,10 +1,10 @@
 -- `writing::insert::write_in`: the writes, one after the other (theory: Inserting). Assumes nothing.
 use Rattle.theory.specs.number.Bytes.{le}
-use Rattle.theory.specs.layout.Bump.{bump}
+use Rattle.theory.specs.writing.RaisedOffsets.{bump}
 use native.Mathlib.Omega.{arith}
 use mathlib.Core.Path.{_∙_, ap}
-use Rattle.theory.specs.layout.Block.{remainders, runends}
-use Rattle.theory.specs.layout.Sizes.{slots-high}
+use Rattle.theory.specs.images.Block.{remainders, runends}
+use Rattle.theory.specs.images.Sizes.{slots-high}
 use borrow.Author.Needs.{needs}
 use Rattle.writing.proofs.insert.write_in.Statement.{statement}
 use Rattle.writing.proofs.insert.write_in.Tie as tie

@@ -1,20 +1,19 @@
--- `writing::remove::find_copy`: an empty run, a miss, or the last equal place of the run (specs/Leaving). Assumes nothing.
+-- `writing::remove::find_copy`: an empty run, a miss, or the last equal place of the run (specs/CopyOut). Assumes nothing.
 use mathlib.Core.Path.{sym, subst, _∙_}
 use native.Mathlib.Omega.{arith}
 use denote.Ref.{now}
 use Rattle.theory.specs.Shape.{slots as slots-of}
-use Rattle.theory.specs.number.Bytes.{le}
-use Rattle.theory.specs.layout.Block.{views}
-use Rattle.theory.specs.layout.Sizes.{slots-high}
-use Rattle.writing.specs.Spots.{Unrolled}
-use Rattle.writing.specs.Leaving.{LastSeen, leaving-empty, leaving-none, leaving-copy}
+use Rattle.layout.specs.Whole.{viewsIn}
+use Rattle.theory.specs.images.Sizes.{slots-high}
+use Rattle.theory.specs.reading.Walks.{Unrolled}
+use Rattle.writing.specs.CopyOut.{LastSeen, going-empty, going-none, going-copy}
 use Rattle.writing.specs.declared.remove.LastEqual.the-variants.{At}
 use borrow.Author.Needs.{needs}
 use Rattle.writing.proofs.remove.find_copy.Statement.{statement}
 use Rattle.writing.proofs.remove.find_copy.Tie as tie
 
 -- what the scan of the run told
-seen : (c : tie.After-known-told) → LastSeen (slots-of (c .before .before .before .before .before .before .before .before .args .shape .qbits)) (views (c .before .before .before .before .before .before .before .before .args .shape .rbits) (le (now (c .before .before .before .before .before .before .before .before .args .buf)))) (c .before .before .before .before .run-start .result) (c .before .before .before .before .before .before .before .before .args .rem) (At (c .before .place .given .0 .0) (c .before .place .given .0 .1 .0))
+seen : (c : tie.After-known-told) → LastSeen (slots-of (c .before .before .before .before .before .before .before .before .args .shape .qbits)) (viewsIn (c .before .before .before .before .before .before .before .before .args .shape) (now (c .before .before .before .before .before .before .before .before .args .buf))) (c .before .before .before .before .run-start .result) (c .before .before .before .before .before .before .before .before .args .rem) (At (c .before .place .given .0 .0) (c .before .place .given .0 .1 .0))
 seen c = subst (LastSeen _ _ _ _) (c .before .place .given .1) (c .before .before .before .last-equal .ensures)
 
 -- where the run starts, from x on
@@ -28,7 +27,7 @@ returns : tie.Need-returns
 returns c =
     let s = c .before .before .before in
     let a = s .args in
-    leaving-empty (a .shape) (now (a .buf)) (a .x) (a .rem) (s .pre .1) (sym (c .before .is-occupied .ensures .0) ∙ c .if1 .taken)
+    going-empty (a .shape) (now (a .buf)) (a .x) (a .rem) (s .pre .1) (sym (c .before .is-occupied .ensures .0) ∙ c .if1 .taken)
 
 run-start-requires : tie.Need-run-start-requires
 run-start-requires c κs = search needs
@@ -47,7 +46,7 @@ returns-2 c =
     let b = c .before .before .before .before in
     let s = b .before .before .before in
     let a = s .args in
-    leaving-none (a .shape) (now (a .buf)) (a .x) (a .rem) (s .pre .1) _ (λ z. b .if1 .left (b .before .is-occupied .ensures .0 ∙ z)) (c .before .before .before .run-start .ensures) (subst (LastSeen _ _ _ _) (c .enum-told .given .1) (c .before .before .last-equal .ensures))
+    going-none (a .shape) (now (a .buf)) (a .x) (a .rem) (s .pre .1) _ (λ z. b .if1 .left (b .before .is-occupied .ensures .0 ∙ z)) (c .before .before .before .run-start .ensures) (subst (LastSeen _ _ _ _) (c .enum-told .given .1) (c .before .before .last-equal .ensures))
 
 slots-requires : tie.Need-slots-requires
 slots-requires c κs = search needs
@@ -82,7 +81,7 @@ returns-3 c =
     let b = t .before .before .before .before .before in
     let s = b .before .before .before in
     let a = s .args in
-    leaving-copy (a .shape) (now (a .buf)) (a .x) (a .rem) (s .pre .1) _ (λ z. b .if1 .left (b .before .is-occupied .ensures .0 ∙ z)) (t .before .before .before .before .run-start .ensures) (s .pre .0 .widths .low) _ _ _ _ _ (began (c .before .before)) (seen t) (c .before .bit-place .ensures) (c .lesser .ensures)
+    going-copy (a .shape) (now (a .buf)) (a .x) (a .rem) (s .pre .1) _ (λ z. b .if1 .left (b .before .is-occupied .ensures .0 ∙ z)) (t .before .before .before .before .run-start .ensures) (s .pre .0 .widths .low) _ _ _ _ _ (began (c .before .before)) (seen t) (c .before .bit-place .ensures) (c .lesser .ensures)
 
 pub find-copy-spec : {M : Type 1} → statement M
 find-copy-spec =

@@ -1,4 +1,4 @@
--- `writing::remove::last_equal`: the invariant is that k places are passed, and which of them is the last equal one (specs/Leaving). Assumes nothing.
+-- `writing::remove::last_equal`: the invariant is that k places are passed, and which of them is the last equal one (specs/CopyOut). Assumes nothing.
 use Prim.Native.Nat.{_+_, _-_, _%_, _<_}
 use mathlib.Core.Path.{_≡_, sym, _∙_}
 use mathlib.Core.Logic.{_⊎_, inl, inr, _≢_, ⊎-elim}
@@ -7,21 +7,20 @@ use native.Mathlib.Nat.{mod-lt}
 use denote.Ref.{now}
 use Rattle.theory.specs.Shape.{slots as slots-of}
 use Rattle.theory.specs.Image.{Views}
-use Rattle.theory.specs.number.Bytes.{le}
-use Rattle.theory.specs.layout.Block.{views}
-use Rattle.writing.specs.Leaving.{Looking, looking-none, looking-on, seen-end, seen-round}
+use Rattle.layout.specs.Whole.{viewsIn}
+use Rattle.writing.specs.CopyOut.{Looking, looking-none, looking-on, seen-end, seen-round}
 use borrow.Author.Needs.{needs}
 use Rattle.writing.proofs.remove.last_equal.Statement.{statement}
 use Rattle.writing.proofs.remove.last_equal.Tie as tie
 
 abbrev Inv-loop : tie.InvT-loop
-Inv-loop buf shape at rem slots k₀ last₀ k last = (k < slots-of (shape .qbits)) × (Looking (slots-of (shape .qbits)) (views (shape .rbits) (le buf)) at rem k last)
+Inv-loop buf shape at rem slots k₀ last₀ k last = (k < slots-of (shape .qbits)) × (Looking (slots-of (shape .qbits)) (viewsIn shape buf) at rem k last)
 
 abbrev μ-loop : tie.MeasureT-loop
 μ-loop buf shape at rem slots k₀ last₀ k last = slots - k
 
 abbrev seen : tie.At-loop Inv-loop μ-loop → Views
-seen c = views (c .before .before .before .args .shape .rbits) (le (now (c .before .before .before .args .buf)))
+seen c = viewsIn (c .before .before .before .args .shape) (now (c .before .before .before .args .buf))
 
 -- the slot of the turn
 in-round : (c : tie.At-loop Inv-loop μ-loop) → (c .before .before .before .args .at + c .loop .k) % c .before .slots .result < slots-of (c .before .before .before .args .shape .qbits)
@@ -52,11 +51,11 @@ get-remainder-requires c κs = (c .before .before .before .pre .0, in-round c)
 is-runend-requires : tie.Need-is-runend-requires Inv-loop μ-loop
 is-runend-requires c κs = (c .before .before .before .before .before .pre .0, in-round (c .before .before))
 
-told-requires : tie.Need-told-requires Inv-loop μ-loop
-told-requires c κs = search needs
+as-last-equal-requires : tie.Need-as-last-equal-requires Inv-loop μ-loop
+as-last-equal-requires c κs = search needs
 
-told-requires-2 : tie.Need-told-requires-2 Inv-loop μ-loop
-told-requires-2 c κs = search needs
+as-last-equal-requires-2 : tie.Need-as-last-equal-requires-2 Inv-loop μ-loop
+as-last-equal-requires-2 c κs = search needs
 
 loop-less : tie.Need-loop-less Inv-loop μ-loop
 loop-less c = search needs
@@ -73,14 +72,14 @@ returns c =
     let i = c .before .before .before in
     let b = i .before .before in
     let e = b .before .slots .ensures .0 in
-    seen-end _ (seen b) _ _ (b .loop .k) _ _ _ (b .loop .inv .1) (rw e at (i .before .get-remainder .ensures .0)) (b .loop .inv .0) (by i) (sym (rw e at (c .before .before .is-runend .ensures .0)) ∙ c .before .if2 .taken) _ (c .told .ensures)
+    seen-end _ (seen b) _ _ (b .loop .k) _ _ _ (b .loop .inv .1) (rw e at (i .before .get-remainder .ensures .0)) (b .loop .inv .0) (by i) (sym (rw e at (c .before .before .is-runend .ensures .0)) ∙ c .before .if2 .taken) _ (c .as-last-equal .ensures)
 
 returns-2 : tie.Need-returns-2 Inv-loop μ-loop
 returns-2 c =
     let i = c .before .before .before .before in
     let b = i .before .before in
     let e = b .before .slots .ensures .0 in
-    seen-round _ (seen b) _ _ (b .loop .k + 1) _ (omega arith) (looking-on _ (seen b) _ _ (b .loop .k) _ _ _ (b .loop .inv .1) (rw e at (i .before .get-remainder .ensures .0)) (b .loop .inv .0) (by i) (λ y. c .before .before .if2 .left (rw e at (c .before .before .before .is-runend .ensures .0) ∙ y))) _ (c .told2 .ensures)
+    seen-round _ (seen b) _ _ (b .loop .k + 1) _ (omega arith) (looking-on _ (seen b) _ _ (b .loop .k) _ _ _ (b .loop .inv .1) (rw e at (i .before .get-remainder .ensures .0)) (b .loop .inv .0) (by i) (λ y. c .before .before .if2 .left (rw e at (c .before .before .before .is-runend .ensures .0) ∙ y))) _ (c .as-last-equal2 .ensures)
 
 pub last-equal-spec : {M : Type 1} → statement M
 last-equal-spec =
@@ -95,8 +94,8 @@ last-equal-spec =
     add-k
     get-remainder-requires
     is-runend-requires
-    told-requires
-    told-requires-2
+    as-last-equal-requires
+    as-last-equal-requires-2
     loop-less
     loop-again
     returns

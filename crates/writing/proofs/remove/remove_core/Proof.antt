@@ -3,32 +3,31 @@ use mathlib.Core.Path.{subst}
 use native.Mathlib.Omega.{arith}
 use denote.Ref.{now}
 use Rattle.theory.specs.Shape.{slots}
-use Rattle.theory.specs.number.Bytes.{le}
-use Rattle.theory.specs.layout.Block.{views}
-use Rattle.theory.specs.layout.Sizes.{slots-pos}
-use Rattle.writing.specs.Leaving.{LeavingFor}
+use Rattle.layout.specs.Whole.{viewsIn}
+use Rattle.theory.specs.images.Sizes.{slots-pos}
+use Rattle.writing.specs.CopyOut.{GoingFor}
 use Rattle.writing.specs.Shifted.{ShiftedFrom}
 use Rattle.writing.specs.Remove.{core-absent, core-unshifted, core-before, core-gone}
 use Rattle.bits.specs.declared.select.Found.{Found}
 use Rattle.bits.specs.declared.select.Found.the-variants.{At}
-use Rattle.writing.specs.declared.remove.Leaving.{Leaving}
-use Rattle.writing.specs.declared.remove.Leaving.the-variants.{Copy}
+use Rattle.writing.specs.declared.remove.Going.{Going}
+use Rattle.writing.specs.declared.remove.Going.the-variants.{Copy}
 use borrow.Author.Needs.{needs}
 use Rattle.writing.proofs.remove.remove_core.Statement.{statement}
 use Rattle.writing.proofs.remove.remove_core.Tie as tie
 
 -- what the scan of the run told
-abbrev Goes : tie.After-find-copy → Leaving → Type 0
-Goes c a = LeavingFor (c .before .before .before .before .before .args .shape) (now (c .before .before .before .before .before .args .buf)) (c .before .before .before .quotient .result) (c .before .before .remainder .result) a
+abbrev Goes : tie.After-find-copy → Going → Type 0
+Goes c a = GoingFor (c .before .before .before .before .before .args .shape) (now (c .before .before .before .before .before .args .buf)) (c .before .before .before .quotient .result) (c .before .before .remainder .result) a
 
-copy : (c : tie.After-known-told) → Goes (c .before .before .before) (Copy (c .before .place .given .0 .0))
-copy c = subst (Goes (c .before .before .before)) (c .before .place .given .1) (c .before .before .before .find-copy .ensures)
+copy : (c : tie.After-known-told) → Goes (c .before .before .before) (Copy (c .before .copy .given .0 .0))
+copy c = subst (Goes (c .before .before .before)) (c .before .copy .given .1) (c .before .before .before .find-copy .ensures)
 
 -- and the walk to the last slot shifted
 abbrev Moved : tie.After-last-shifted → Found → Type 0
 Moved c a =
     let f = c .before .before .before .before .before in
-    ShiftedFrom (slots (f .before .before .before .before .before .args .shape .qbits)) (views (f .before .before .before .before .before .args .shape .rbits) (le (now (f .before .before .before .before .before .args .buf)))) (f .before .before .before .quotient .result) a
+    ShiftedFrom (slots (f .before .before .before .before .before .args .shape .qbits)) (viewsIn (f .before .before .before .before .before .args .shape) (now (f .before .before .before .before .before .args .buf))) (f .before .before .before .quotient .result) a
 
 moved : (c : tie.After-known-told2) → Moved (c .before .before .before) (At (c .before .e .given .0 .0))
 moved c = subst (Moved (c .before .before .before)) (c .before .e .given .1) (c .before .before .before .last-shifted .ensures)
@@ -42,8 +41,8 @@ remainder-requires c κs = search needs
 find-copy-requires : tie.Need-find-copy-requires
 find-copy-requires c κs = search needs
 
-enum-known-place : tie.Need-enum-known-place
-enum-known-place c = search needs
+enum-known-copy : tie.Need-enum-known-copy
+enum-known-copy c = search needs
 
 enum-told : tie.Need-enum-told
 enum-told c = search needs
@@ -122,7 +121,7 @@ remove-core-spec =
     quotient-requires
     remainder-requires
     find-copy-requires
-    enum-known-place
+    enum-known-copy
     enum-told
     same-length
     returns

@@ -6,10 +6,10 @@ use native.Mathlib.Nat.{mod-lt}
 use lib.ListN.{length}
 use Rattle.theory.specs.Shape.{slots as slots-of, blocks as blocks-of}
 use Rattle.theory.specs.number.Bytes.{le}
-use Rattle.theory.specs.layout.Block.{views}
-use Rattle.theory.specs.layout.Sizes.{slots-blocks, slots-high}
-use Rattle.layout.specs.Whole.{Whole}
-use Rattle.writing.specs.Shifted.{NextCarry, Renewing, renewing-none, renewing-on, renews-missed, renews-all}
+use Rattle.theory.specs.images.Sizes.{slots-blocks, slots-high}
+use Rattle.layout.specs.Whole.{Whole, viewsIn}
+use Rattle.filter.specs.Runs.{NextCarry}
+use Rattle.writing.specs.Shifted.{Renewing, renewing-none, renewing-on, renews-missed, renews-all}
 use Rattle.bits.specs.declared.select.Found.the-variants.{At}
 use borrow.Author.Needs.{needs}
 use Rattle.writing.proofs.remove.renew_offsets.Statement.{statement}
@@ -33,7 +33,7 @@ whole : (c : tie.After-blocks2 Inv-loop μ-loop) → slots-of (c .before .before
 whole c = slots-blocks _ (c .before .before .pre .0 .widths .low)
 
 -- what the step to the next block told
-stepped : (c : tie.After-known-told Inv-loop μ-loop) → NextCarry (slots-of (c .before .before .before .before .before .before .before .before .before .args .shape .qbits)) (views (c .before .before .before .before .before .before .before .before .before .args .shape .rbits) (le (c .before .before .before .before .before .before .loop .buf))) ((c .before .before .before .before .before .before .before .before .before .args .a + c .before .before .before .before .before .before .loop .j) % blocks-of (c .before .before .before .before .before .before .before .before .before .args .shape .qbits)) (c .before .before .before .before .before .before .loop .carry) (At (c .before .next .given .0 .0))
+stepped : (c : tie.After-known-told Inv-loop μ-loop) → NextCarry (slots-of (c .before .before .before .before .before .before .before .before .before .args .shape .qbits)) (viewsIn (c .before .before .before .before .before .before .before .before .before .args .shape) (c .before .before .before .before .before .before .loop .buf)) ((c .before .before .before .before .before .before .before .before .before .args .a + c .before .before .before .before .before .before .loop .j) % blocks-of (c .before .before .before .before .before .before .before .before .before .args .shape .qbits)) (c .before .before .before .before .before .before .loop .carry) (At (c .before .next .given .0 .0))
 stepped c = rw (c .before .before .before .before .before .before .before .blocks2 .ensures .0) at (subst (NextCarry _ _ _ _) (c .before .next .given .1) (c .before .before .before .next-carry .ensures))
 
 blocks-requires : tie.Need-blocks-requires Inv-loop μ-loop

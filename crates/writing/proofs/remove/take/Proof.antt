@@ -1,8 +1,8 @@
 -- `writing::remove::take`: the writes, one after the other (theory: Removing). Assumes nothing.
 use Rattle.theory.specs.number.Bytes.{le}
 use native.Mathlib.Omega.{arith}
-use Rattle.theory.specs.layout.Block.{remainders, runends}
-use Rattle.theory.specs.layout.Sizes.{slots-high}
+use Rattle.theory.specs.images.Block.{remainders, runends}
+use Rattle.theory.specs.images.Sizes.{slots-high}
 use borrow.Author.Needs.{needs}
 use Rattle.writing.proofs.remove.take.Statement.{statement}
 use Rattle.writing.proofs.remove.take.Tie as tie

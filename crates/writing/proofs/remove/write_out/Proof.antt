@@ -1,6 +1,6 @@
 -- `writing::remove::write_out`: the carry, the writes and the offset bytes, one after the other (specs/Remove). Assumes nothing.
 use Rattle.theory.specs.number.Bytes.{le}
-use Rattle.theory.specs.layout.Sizes.{slot-block}
+use Rattle.theory.specs.images.Sizes.{slot-block}
 use borrow.Author.Needs.{needs}
 use Rattle.writing.proofs.remove.write_out.Statement.{statement}
 use Rattle.writing.proofs.remove.write_out.Tie as tie
@@ -10,17 +10,17 @@ offset-requires c κs =
     let p = c .before .before .pre in
     (p .0, slot-block _ _ (p .0 .widths .low) (p .1))
 
-mul-left-over : tie.Need-mul-left-over
-mul-left-over c = search needs
+mul-carry-without : tie.Need-mul-carry-without
+mul-carry-without c = search needs
 
 slots-requires : tie.Need-slots-requires
 slots-requires c κs = search needs
 
-add-left-over : tie.Need-add-left-over
-add-left-over c = search needs
+add-carry-without : tie.Need-add-carry-without
+add-carry-without c = search needs
 
-left-over-requires : tie.Need-left-over-requires
-left-over-requires c κs = search needs
+carry-without-requires : tie.Need-carry-without-requires
+carry-without-requires c κs = search needs
 
 take-requires : tie.Need-take-requires
 take-requires c κs = search needs
@@ -43,7 +43,7 @@ returns c =
       x₁ = le (t .take .last .0);
       offset = l .before .before .offset .ensures;
       took = t .take .ensures;
-      renewed = rw (l .left-over .ensures, l .before .slots .ensures .0) at (c .before .before .renew-offsets .ensures);
+      renewed = rw (l .carry-without .ensures, l .before .slots .ensures .0) at (c .before .before .renew-offsets .ensures);
     }
 
 pub write-out-spec : {M : Type 1} → statement M
@@ -51,10 +51,10 @@ write-out-spec =
     tie.close
     (tie.spec
     offset-requires
-    mul-left-over
+    mul-carry-without
     slots-requires
-    add-left-over
-    left-over-requires
+    add-carry-without
+    carry-without-requires
     take-requires
     sub-renew-offsets
     renew-offsets-requires

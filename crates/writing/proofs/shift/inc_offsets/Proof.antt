@@ -1,13 +1,12 @@
--- `writing::shift::inc_offsets`: what is left of the bumps, done to the buffer as it is, is the whole of them (theory: Bump). Assumes nothing.
-use Prim.Native.Nat.{ℕ, _+_, _-_, _*_, _%_, _≤_, _<_}
+-- `writing::shift::inc_offsets`: what is left of the bumps, done to the buffer as it is, is the whole of them (theory: RaisedOffsets). Assumes nothing.
+use Prim.Native.Nat.{ℕ, _+_, _-_, _%_, _≤_, _<_}
 use mathlib.Core.Path.{_≡_, sym, ap, refl, _∙_}
 use native.Mathlib.Omega.{arith}
 use native.Mathlib.Nat.{mod-lt}
 use lib.ListN.{length}
-use denote.Ref.{now}
 use Rattle.theory.specs.Shape.{blocks as blocks-of}
 use Rattle.theory.specs.number.Bytes.{le}
-use Rattle.theory.specs.layout.Bump.{bump, bump-step, bump-none}
+use Rattle.theory.specs.writing.RaisedOffsets.{bump, bump-step, bump-none}
 use Rattle.layout.specs.Whole.{Whole}
 use borrow.Author.Needs.{needs}
 use Rattle.writing.proofs.shift.inc_offsets.Statement.{statement}

@@ -1,16 +1,16 @@
 -- `writing::shift::take_out`: what is left of the slide, done to the buffer as it is, is the whole slide of the buffer as it was (theory: Slide, PutIn). Assumes nothing.
-use Prim.Native.Nat.{ℕ, _+_, _-_, _*_, _%_, _≤_, _<_}
-use mathlib.Core.Path.{_≡_, sym, ap, refl, _∙_}
+use Prim.Native.Nat.{ℕ, _+_, _-_, _%_, _≤_, _<_}
+use mathlib.Core.Path.{_≡_, sym, ap, _∙_}
 use native.Mathlib.Omega.{arith}
 use native.Mathlib.Nat.{mod-lt}
 use lib.ListN.{length}
 use lib.Pow.{pow-pos}
 use denote.Ref.{now}
-use Rattle.theory.specs.Shape.{slots as slots-of, blocks as blocks-of}
+use Rattle.theory.specs.Shape.{slots as slots-of}
 use Rattle.theory.specs.number.Bytes.{le}
-use Rattle.theory.specs.layout.Slide.{slideDown}
-use Rattle.theory.specs.layout.PutIn.{down-step, down-none, take-out}
-use Rattle.theory.specs.layout.Sizes.{slots-blocks}
+use Rattle.theory.specs.writing.Slide.{slideDown}
+use Rattle.theory.specs.writing.PutIn.{down-step, down-none, take-out}
+use Rattle.theory.specs.images.Sizes.{slots-blocks}
 use Rattle.layout.specs.Whole.{Whole}
 use borrow.Author.Needs.{needs}
 use Rattle.writing.proofs.shift.take_out.Statement.{statement}

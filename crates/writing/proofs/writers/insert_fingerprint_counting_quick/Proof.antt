@@ -2,7 +2,7 @@
 use mathlib.Core.Path.{_≡_, refl}
 use native.Mathlib.Omega.{arith}
 use denote.Ref.{now}
-use Rattle.layout.specs.Verdicts.{lowestDue}
+use Rattle.layout.specs.Records.{lowestDue}
 use Rattle.layout.specs.Judging.{quick-refused, quick-worked}
 use Rattle.writing.specs.Writing.{inside-same}
 use borrow.Author.Needs.{needs}

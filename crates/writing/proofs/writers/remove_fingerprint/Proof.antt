@@ -3,7 +3,7 @@ use mathlib.Core.Path.{refl, subst}
 use denote.Ref.{now}
 use Rattle.layout.specs.Verdicts.{Judged}
 use Rattle.layout.specs.Judging.{checked-refused, checked-sound}
-use Rattle.layout.specs.declared.check.Verdict.the-variants.{Sound, Refused}
+use Rattle.layout.specs.declared.check.Verdict.the-variants.{Sound}
 use borrow.Author.Needs.{needs}
 use Rattle.writing.proofs.writers.remove_fingerprint.Statement.{statement}
 use Rattle.writing.proofs.writers.remove_fingerprint.Tie as tie

@@ -1,9 +1,8 @@
 -- `writing::writers::remove_fingerprint_quick`: a number of 1 to 5, or the core. Assumes nothing.
-use Prim.Native.Nat.{_<_}
-use mathlib.Core.Path.{_≡_, refl, sym, _∙_}
+use mathlib.Core.Path.{_≡_, refl}
 use native.Mathlib.Omega.{arith}
 use denote.Ref.{now}
-use Rattle.layout.specs.Verdicts.{lowestDue}
+use Rattle.layout.specs.Records.{lowestDue}
 use Rattle.layout.specs.Judging.{quick-refused, quick-worked}
 use Rattle.writing.specs.Writing.{inside-same}
 use borrow.Author.Needs.{needs}

@@ -3,7 +3,7 @@ use mathlib.Core.Path.{ap, _∙_}
 use Prim.Native.Nat.{_+_, _*_, _%_}
 use native.Mathlib.Omega.{arith}
 use native.Mathlib.Nat.{mod-lt}
-use Rattle.theory.specs.layout.Sizes.{slots-blocks, slots-pos, blocks-high}
+use Rattle.theory.specs.images.Sizes.{slots-blocks, slots-pos, blocks-high}
 use borrow.Author.Needs.{needs}
 use Rattle.layout.proofs.check.step.around.Statement.{statement}
 use Rattle.layout.proofs.check.step.around.Tie as tie

@@ -5,7 +5,7 @@ use borrow.Author.Needs.{needs}
 use Rattle.theory.specs.Shape.{bytes}
 use Rattle.theory.specs.number.Bytes.{le}
 use Rattle.theory.specs.number.Field.{field}
-use Rattle.theory.specs.layout.Block.{tailAt}
+use Rattle.theory.specs.images.Block.{tailAt}
 use Rattle.layout.proofs.check.step.tail.Statement.{statement}
 use Rattle.layout.proofs.check.step.tail.Tie as tie
 

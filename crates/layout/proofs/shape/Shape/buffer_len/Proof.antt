@@ -1,9 +1,9 @@
 -- `layout::shape::Shape::buffer_len`: the formula, which no allowed shape takes out of range. Assumes nothing.
 use Prim.Native.Nat.{_+_, _*_}
-use mathlib.Core.Path.{_≡_, refl}
+use mathlib.Core.Path.{_≡_}
 use native.Mathlib.Omega.{arith}
 use Rattle.theory.specs.Shape.{bytes}
-use Rattle.theory.specs.layout.Sizes.{bytes-high}
+use Rattle.theory.specs.images.Sizes.{bytes-high}
 use borrow.Author.Needs.{needs}
 use Rattle.layout.proofs.shape.Shape.buffer_len.Statement.{statement}
 use Rattle.layout.proofs.shape.Shape.buffer_len.Tie as tie

@@ -1,8 +1,7 @@
 -- `layout::shape::Shape::new`: a shape exactly if number 1 is not due. Assumes nothing.
 use native.Mathlib.Omega.{arith}
 use mathlib.Core.Path.{refl}
-use lib.Dec.{lit<}
-use Rattle.theory.specs.check.Refusals.{widths-none, widths-due}
+use Rattle.theory.specs.refusals.ByNumber.{widths-none, widths-due}
 use borrow.Author.Needs.{needs}
 use Rattle.layout.proofs.shape.Shape.new.Statement.{statement}
 use Rattle.layout.proofs.shape.Shape.new.Tie as tie

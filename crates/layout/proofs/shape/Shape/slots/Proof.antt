@@ -1,7 +1,6 @@
 -- `layout::shape::Shape::slots`. Assumes nothing.
 use Rattle.theory.specs.Shape.{slots}
-use Rattle.theory.specs.layout.Sizes.{slots-low, slots-high}
-use mathlib.Core.Path.{_≡_}
+use Rattle.theory.specs.images.Sizes.{slots-low, slots-high}
 use borrow.Author.Needs.{needs}
 use Rattle.layout.proofs.shape.Shape.slots.Statement.{statement}
 use Rattle.layout.proofs.shape.Shape.slots.Tie as tie

@@ -1,0 +1,93 @@
+-- `filter::lookup::first_equal`: the invariant is that k places of the run are passed, none of them equal (specs/Scan). Assumes nothing.
+use Prim.Native.Nat.{_+_, _-_, _%_, _<_}
+use mathlib.Core.Path.{sym, _∙_}
+use native.Mathlib.Omega.{arith}
+use native.Mathlib.Nat.{mod-lt}
+use denote.Ref.{now}
+use Rattle.theory.specs.Shape.{slots as slots-of}
+use Rattle.theory.specs.Image.{Views}
+use Rattle.layout.specs.Whole.{viewsIn}
+use Rattle.filter.specs.Scan.{Passing, sought-hit, sought-end, passing-on, sought-round}
+use borrow.Author.Needs.{needs}
+use Rattle.filter.proofs.lookup.first_equal.Statement.{statement}
+use Rattle.filter.proofs.lookup.first_equal.Tie as tie
+
+abbrev Inv-loop : tie.InvT-loop
+Inv-loop buf shape at rem slots k₀ k = (k < slots-of (shape .qbits)) × Passing (slots-of (shape .qbits)) (viewsIn shape buf) at rem k
+
+abbrev μ-loop : tie.MeasureT-loop
+μ-loop buf shape at rem slots k₀ k = slots - k
+
+abbrev seen : tie.At-loop Inv-loop μ-loop → Views
+seen c = viewsIn (c .before .before .before .args .shape) (now (c .before .before .before .args .buf))
+
+-- the slot of the turn
+in-round : (c : tie.At-loop Inv-loop μ-loop) → (c .before .before .before .args .at + c .loop .k) % c .before .slots .result < slots-of (c .before .before .before .args .shape .qbits)
+in-round c = omega (arith, c .before .slots .ensures .0, mod-lt (c .before .before .before .args .at + c .loop .k) {m = c .before .slots .result} (omega arith))
+
+slots-requires : tie.Need-slots-requires Inv-loop μ-loop
+slots-requires c κs = search needs
+
+loop-holds : tie.Need-loop-holds Inv-loop μ-loop
+loop-holds c = search needs
+
+add-s : tie.Need-add-s Inv-loop μ-loop
+add-s c = search needs
+
+rem-s : tie.Need-rem-s Inv-loop μ-loop
+rem-s c = search needs
+
+add-k : tie.Need-add-k Inv-loop μ-loop
+add-k c = search needs
+
+get-remainder-requires : tie.Need-get-remainder-requires Inv-loop μ-loop
+get-remainder-requires c κs = (c .before .before .before .pre .0, in-round c)
+
+is-runend-requires : tie.Need-is-runend-requires Inv-loop μ-loop
+is-runend-requires c κs = (c .before .before .before .before .before .pre .0, in-round (c .before .before))
+
+loop-less : tie.Need-loop-less Inv-loop μ-loop
+loop-less c = search needs
+
+loop-again : tie.Need-loop-again Inv-loop μ-loop
+loop-again c =
+    let b = c .before .before .before .before .before in
+    let e = b .before .slots .ensures .0 in
+    (omega arith, passing-on _ (seen b) _ _ (b .loop .k) _ (b .loop .inv .1) (rw e at (c .before .before .before .before .get-remainder .ensures .0)) (c .before .before .before .if1 .left) (λ y. c .before .if2 .left (rw e at (c .before .before .is-runend .ensures .0) ∙ y)))
+
+returns : tie.Need-returns Inv-loop μ-loop
+returns c =
+    let b = c .before .before in
+    let e = b .before .slots .ensures .0 in
+    sought-hit _ (seen b) _ _ (b .loop .k) _ (b .loop .inv .1) (rw e at (c .before .get-remainder .ensures .0)) (c .if1 .taken) (omega arith)
+
+returns-2 : tie.Need-returns-2 Inv-loop μ-loop
+returns-2 c =
+    let b = c .before .before .before .before in
+    let e = b .before .slots .ensures .0 in
+    sought-end _ (seen b) _ _ (b .loop .k) _ (b .loop .inv .1) (rw e at (c .before .before .before .get-remainder .ensures .0)) (c .before .before .if1 .left) (sym (rw e at (c .before .is-runend .ensures .0)) ∙ c .if2 .taken) (omega arith)
+
+returns-3 : tie.Need-returns-3 Inv-loop μ-loop
+returns-3 c =
+    let b = c .before .before .before .before .before in
+    let e = b .before .slots .ensures .0 in
+    sought-round _ (seen b) _ _ (b .loop .k + 1) (omega arith) (passing-on _ (seen b) _ _ (b .loop .k) _ (b .loop .inv .1) (rw e at (c .before .before .before .before .get-remainder .ensures .0)) (c .before .before .before .if1 .left) (λ y. c .before .if2 .left (rw e at (c .before .before .is-runend .ensures .0) ∙ y)))
+
+pub first-equal-spec : {M : Type 1} → statement M
+first-equal-spec =
+    tie.close
+    (tie.spec
+    Inv-loop
+    μ-loop
+    slots-requires
+    loop-holds
+    add-s
+    rem-s
+    add-k
+    get-remainder-requires
+    is-runend-requires
+    loop-less
+    loop-again
+    returns
+    returns-2
+    returns-3)
