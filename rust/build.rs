@@ -1,4 +1,5 @@
 //! Links the proved static library, which `rt staticlib capi` makes at the top of the repository.
+//! Without the feature `library` there is nothing to link.
 
 use std::env;
 use std::path::PathBuf;
@@ -6,6 +7,9 @@ use std::path::PathBuf;
 fn main() {
     println!("cargo:rerun-if-changed=build.rs");
     println!("cargo:rerun-if-env-changed=STRUMBLAY_LIB");
+    if env::var_os("CARGO_FEATURE_LIBRARY").is_none() {
+        return;
+    }
     let own = || PathBuf::from(env!("CARGO_MANIFEST_DIR")).join("../target/staticlib");
     let folder = env::var_os("STRUMBLAY_LIB").map_or_else(own, PathBuf::from);
     let library = folder.join("libcapi.a");

@@ -63,14 +63,14 @@ impl Filter {
     }
 }
 
-/// The private functions that document 01 names.
+/// The private functions that are compared on their own.
 impl Filter {
     /// `BitExt::select`, by assembly where the build has it.
     pub fn word_select(x: u64, n: u64) -> Option<u64> {
         x.select(0.., n)
     }
 
-    /// Source document 000.
+    /// The body that has no assembly.
     pub fn portable_select(x: u64, n: u64) -> Option<u64> {
         crate::portable_select::select(x, n)
     }

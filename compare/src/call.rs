@@ -2,6 +2,7 @@
 
 use crate::model::{self, Filter, Numbers, Place, Shape};
 
+/// A call on one filter.
 #[derive(Clone, Debug)]
 pub enum Call {
     Contains { hash: u64 },
@@ -21,6 +22,7 @@ impl Call {
     }
 }
 
+/// What a call answers.
 #[derive(Clone, PartialEq, Eq, Debug)]
 pub enum Answer {
     Refused(u64),

@@ -21,6 +21,7 @@ pub enum Spread {
     Window,
 }
 
+/// All of them.
 pub const SPREADS: [Spread; 6] =
     [Spread::Uniform, Spread::Few, Spread::Ends, Spread::One, Spread::Heavy, Spread::Window];
 
@@ -36,10 +37,12 @@ pub struct Hashes {
 }
 
 impl Hashes {
+    /// Hashes of one spread.
     pub fn new(rng: &mut Rng, shape: Shape, spread: Spread) -> Hashes {
         Hashes { shape, spread, home: rng.next(), narrow: rng.one_in(2) }
     }
 
+    /// Hashes of any spread.
     pub fn spread(rng: &mut Rng, shape: Shape) -> Hashes {
         let spread = rng.pick(&SPREADS);
         Hashes::new(rng, shape, spread)
@@ -124,6 +127,7 @@ impl Hashes {
         calls
     }
 
+    /// An insert of a hash of the spread.
     pub fn insert(&self, rng: &mut Rng) -> Call {
         Call::Insert { hash: self.hash(rng), max_count: rng.pick(&MAX_COUNTS) }
     }

@@ -1,18 +1,7 @@
-//! Compares the original crate, a model of document 01 and the proved library; see README.md.
+//! Compares the original crate, a model of docs/RULES.md and the proved library; see README.md.
 
-// Parts of the library that a build leaves out leave some of the helpers without a user.
-#![cfg_attr(
-    not(all(
-        feature = "proved-foundation",
-        feature = "proved-check",
-        feature = "proved-lookup",
-        feature = "proved-list",
-        feature = "proved-insert",
-        feature = "proved-remove",
-        feature = "proved-growth"
-    )),
-    allow(dead_code, unused_imports)
-)]
+// Without the proved library some of the helpers have no user.
+#![cfg_attr(not(feature = "proved"), allow(dead_code, unused_imports))]
 
 #[cfg(feature = "proved")]
 mod bench;
@@ -45,6 +34,7 @@ struct Options {
     only: Option<String>,
 }
 
+/// The command line, read.
 fn options() -> Options {
     let effort = Effort { seed: seed::SEED, times: 1 };
     let mut options = Options { effort, bench: false, vectors: false, only: None };
@@ -66,21 +56,6 @@ fn options() -> Options {
     options
 }
 
-/// The parts of the proved library that this build asks.
-fn parts() -> String {
-    let all = [
-        ("foundation", cfg!(feature = "proved-foundation")),
-        ("check", cfg!(feature = "proved-check")),
-        ("lookup", cfg!(feature = "proved-lookup")),
-        ("list", cfg!(feature = "proved-list")),
-        ("insert", cfg!(feature = "proved-insert")),
-        ("remove", cfg!(feature = "proved-remove")),
-        ("growth", cfg!(feature = "proved-growth")),
-    ];
-    let asked: Vec<&str> = all.iter().filter(|part| part.1).map(|part| part.0).collect();
-    if asked.is_empty() { "none".into() } else { asked.join(" ") }
-}
-
 fn main() {
     let Options { effort, bench, vectors, only } = options();
     if vectors {
@@ -91,7 +66,8 @@ fn main() {
     }
     let begun = Instant::now();
     let Effort { seed, times } = effort;
-    println!("compare: seed {seed}, {times} times the short run, proved parts: {}", parts());
+    let library = if cfg!(feature = "proved") { "with" } else { "without" };
+    println!("compare: seed {seed}, {times} times the short run, {library} the proved library");
     let wanted = |name: &str| only.as_deref().is_none_or(|only| only == name);
     let mut drivers = drivers::ALL.iter().filter(|driver| wanted(driver.0)).peekable();
     assert!(drivers.peek().is_some(), "no driver of that name");

@@ -2,13 +2,14 @@
 //! ever on others.
 
 use crate::call::{Answer, Call};
-use crate::model::{Filter, Numbers, Place};
+use crate::model::{Filter, Numbers, Place, Widths};
 use crate::subject::Subject;
 use qfilter::Error;
 
+/// The crate's filter.
 pub struct Original(qfilter::Filter);
 
-/// The paper's number of the crate's error.
+/// The number that the rules give to the crate's error.
 pub fn number_of(error: Error) -> u64 {
     match error {
         Error::CapacityExceeded => 7,
@@ -25,13 +26,35 @@ pub fn from_model(filter: &Filter, image: &[u8]) -> qfilter::Filter {
     qfilter::Filter::from_parts(image, n.len, n.qbits, n.rbits, n.max_qbits)
 }
 
-/// The crate's record as document 01 has it.
+/// The crate's record as the rules have it.
 pub fn numbers_of(filter: &qfilter::Filter) -> Numbers {
     let (len, qbits, rbits, max_qbits) = filter.parts();
     Numbers { len, qbits, rbits, max_qbits }
 }
 
+/// The crate's widths.
+pub fn widths_of(filter: &qfilter::Filter) -> Widths {
+    let (_, qbits, rbits, max_qbits) = filter.parts();
+    Widths { qbits, rbits, max_qbits }
+}
+
+/// The fingerprints, and the iterator's own place before each of them.
+pub fn listed(filter: &qfilter::Filter) -> (Vec<u64>, Vec<Place>) {
+    let mut iter = filter.fingerprints();
+    let (mut fingerprints, mut places) = (Vec::new(), Vec::new());
+    loop {
+        let (quotient, slot, remaining) = iter.place();
+        let Some(fingerprint) = iter.next() else { break };
+        fingerprints.push(fingerprint);
+        places.push(Place { quotient, slot, remaining });
+    }
+    // The iterator's last place is left where it ran to; the rules have all 0 there.
+    places.push(Place::default());
+    (fingerprints, places)
+}
+
 impl Original {
+    /// A filter that stands for none until one is loaded.
     pub fn new() -> Original {
         Original(qfilter::Filter::from_parts(&[], 0, 6, 1, 0))
     }
@@ -51,28 +74,16 @@ impl Original {
                 Answer::Spare { count, in_spare: numbers_of(&self.0).qbits != before }
             }
             Call::Remove { hash } => Answer::Removed(self.0.remove_fingerprint(hash)),
-            Call::List => self.list(),
+            Call::List => {
+                let (fingerprints, places) = listed(&self.0);
+                Answer::Listed { fingerprints, places }
+            }
             Call::Grow => {
                 self.0 = self.0.grown()?;
                 Answer::Written
             }
             Call::Merge { ref other, keep } => self.merge(other, keep)?,
         })
-    }
-
-    /// The fingerprints, and the iterator's own place before each of them.
-    fn list(&self) -> Answer {
-        let mut iter = self.0.fingerprints();
-        let (mut fingerprints, mut places) = (Vec::new(), Vec::new());
-        loop {
-            let (quotient, slot, remaining) = iter.place();
-            let Some(fingerprint) = iter.next() else { break };
-            fingerprints.push(fingerprint);
-            places.push(Place { quotient, slot, remaining });
-        }
-        // The iterator's last place is left where it ran to; document 01 has all 0 there.
-        places.push(Place::default());
-        Answer::Listed { fingerprints, places }
     }
 
     /// A refused merge of a wider filter stops halfway, a listed difference; so a copy is merged.

@@ -1,28 +1,17 @@
-//! The proved library through its C ABI. Each part of it is behind a feature of its own, so that
-//! the parts can be compared one by one as they appear.
+//! The proved library, by the Rust crate's declarations of it. A refusal must come alone: whatever
+//! else the call gives is 0, or as it was lent.
 
 pub mod guarded;
+pub mod planning;
 pub mod raw;
+pub mod reading;
 pub mod subject;
-
-#[cfg(feature = "proved-check")]
-pub mod check;
-#[cfg(feature = "proved-foundation")]
-pub mod foundation;
-#[cfg(feature = "proved-growth")]
-pub mod growth;
-#[cfg(feature = "proved-insert")]
-pub mod insert;
-#[cfg(feature = "proved-list")]
-pub mod list;
-#[cfg(feature = "proved-lookup")]
-pub mod lookup;
-#[cfg(feature = "proved-remove")]
-pub mod remove;
+pub mod writing;
 
 use crate::model::Numbers;
+use strumblay::ffi::{Changed, Outcome};
 
-/// Stands for a refusal that came with more than its number; document 01 has no such number.
+/// Stands for a refusal that came with more than its number; the rules have no such number.
 const NOT_ALONE: u64 = 999;
 
 /// The number of a refusal whose other fields must be as they should.
@@ -30,35 +19,18 @@ fn refused(number: u64, alone: bool) -> u64 {
     if alone { number } else { NOT_ALONE }
 }
 
-#[repr(C)]
-pub struct Outcome {
-    number: u64,
-    value: u64,
+/// What a call gives, or its refusal.
+fn unless_refused<T>(number: u64, alone: bool, given: T) -> Result<T, u64> {
+    if number == 0 { Ok(given) } else { Err(refused(number, alone)) }
 }
 
-impl Outcome {
-    /// The value, or the number alone: the value is 0 on a refusal.
-    pub fn result(self) -> Result<u64, u64> {
-        match self.number {
-            0 => Ok(self.value),
-            number => Err(refused(number, self.value == 0)),
-        }
-    }
+/// The value, or the number alone: the value is 0 on a refusal.
+fn value_of(got: Outcome) -> Result<u64, u64> {
+    unless_refused(got.number, got.value == 0, got.value)
 }
 
-#[repr(C)]
-pub struct Changed {
-    number: u64,
-    answer: u64,
-    numbers: Numbers,
-}
-
-impl Changed {
-    /// The answer and the record, or the number alone: the record stays as it was given.
-    pub fn result(self, given: Numbers) -> Result<(u64, Numbers), u64> {
-        match self.number {
-            0 => Ok((self.answer, self.numbers)),
-            number => Err(refused(number, self.answer == 0 && self.numbers == given)),
-        }
-    }
+/// The answer and the record, or the number alone: the record stays as it was lent.
+fn change_of(got: Changed, lent: Numbers) -> Result<(u64, Numbers), u64> {
+    let alone = got.answer == 0 && got.numbers == lent;
+    unless_refused(got.number, alone, (got.answer, got.numbers))
 }

@@ -3,6 +3,7 @@
 /// The seed of every run unless `--seed` gives another.
 pub const SEED: u64 = 0x5374_7275_6d62_6c61;
 
+/// The source.
 #[derive(Clone)]
 pub struct Rng(u64);
 
@@ -13,6 +14,7 @@ impl Rng {
         Rng(driver.bytes().fold(seed, mix))
     }
 
+    /// Any number.
     pub fn next(&mut self) -> u64 {
         self.0 = self.0.wrapping_add(0x9e37_79b9_7f4a_7c15);
         let mut z = self.0;
@@ -26,20 +28,24 @@ impl Rng {
         ((u128::from(self.next()) * u128::from(end)) >> 64) as u64
     }
 
+    /// True once in n times.
     pub fn one_in(&mut self, n: u64) -> bool {
         self.below(n) == 0
     }
 
+    /// One of the list.
     pub fn pick<T: Copy>(&mut self, from: &[T]) -> T {
         from[self.below(from.len() as u64) as usize]
     }
 
+    /// Puts the list in any order.
     pub fn shuffle<T>(&mut self, list: &mut [T]) {
         for i in (1..list.len()).rev() {
             list.swap(i, self.below(i as u64 + 1) as usize);
         }
     }
 
+    /// So many bytes.
     pub fn bytes(&mut self, len: u64) -> Vec<u8> {
         (0..len).map(|_| self.next() as u8).collect()
     }

@@ -8,7 +8,7 @@ use crate::subject::{self, Subject};
 use std::panic::{AssertUnwindSafe, catch_unwind};
 
 /// The subjects, and how many calls of each agreed.
-pub struct Bench {
+pub struct Comparison {
     driver: &'static str,
     subjects: Vec<(Box<dyn Subject>, u64)>,
 }
@@ -20,10 +20,11 @@ pub struct Expected {
     pub image: Vec<u8>,
 }
 
-impl Bench {
-    pub fn new(driver: &'static str) -> Bench {
+impl Comparison {
+    /// All subjects, for one driver.
+    pub fn new(driver: &'static str) -> Comparison {
         let subjects = subject::all().into_iter().map(|subject| (subject, 0)).collect();
-        Bench { driver, subjects }
+        Comparison { driver, subjects }
     }
 
     /// Runs the calls from a start on.

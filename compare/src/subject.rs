@@ -3,7 +3,9 @@
 use crate::call::{Answer, Call};
 use crate::model::{Filter, Numbers};
 
+/// The original, or the proved library by one kind of its calls.
 pub trait Subject {
+    /// The name in reports.
     fn name(&self) -> &'static str;
 
     /// Takes over a sound filter.
@@ -13,8 +15,10 @@ pub trait Subject {
     /// model has afterwards; it tells how long a destination must be.
     fn ask(&mut self, call: &Call, after: Numbers) -> Option<Answer>;
 
+    /// The record now.
     fn numbers(&self) -> Numbers;
 
+    /// The bytes now.
     fn bytes(&self) -> &[u8];
 }
 

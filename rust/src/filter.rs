@@ -1,23 +1,9 @@
 //! A filter: a buffer with its record.
 
-use crate::{Error, Result, Widths, ffi};
+use crate::{Error, Numbers, Result, Widths, ffi};
 use alloc::vec;
 use alloc::vec::Vec;
 use core::fmt;
-
-/// The record beside a buffer; saved together with it.
-#[repr(C)]
-#[derive(Clone, Copy, PartialEq, Eq, Hash, Debug)]
-pub struct Numbers {
-    /// How many fingerprints are held, each as often as it is.
-    pub len: u64,
-    /// Bits of the quotient; the filter has 2^qbits slots.
-    pub qbits: u8,
-    /// Bits of the remainder.
-    pub rbits: u8,
-    /// The largest qbits that it may grow to, or 0 for none.
-    pub max_qbits: u8,
-}
 
 /// What a lookup found.
 #[derive(Clone, Copy, PartialEq, Eq, Debug)]

@@ -1,7 +1,8 @@
 //! The retired list: a quotient filter in a buffer of your own, whose every call is proved.
 //!
-//! A filter holds 64-bit fingerprints, each so many times, and answers whether one is held. It
-//! may say yes to another one whose low bits are the same; it never says no to one that it holds.
+//! A filter holds fingerprints, the low bits of 64-bit hashes, each so many times, and answers
+//! whether a hash has one that is held. It may say yes to another hash whose low bits are the same;
+//! it never says no to one whose fingerprint it holds.
 //!
 //! ```
 //! use strumblay::{Error, Filter, Widths};
@@ -38,15 +39,29 @@
 
 extern crate alloc;
 
+mod record;
+
+#[cfg(feature = "library")]
 mod error;
+#[cfg(feature = "library")]
 #[allow(unsafe_code)]
-mod ffi;
+#[doc(hidden)]
+pub mod ffi;
+#[cfg(feature = "library")]
 mod filter;
+#[cfg(feature = "library")]
 mod growth;
+#[cfg(feature = "library")]
 mod listing;
+#[cfg(feature = "library")]
 mod planning;
 
-pub use error::{Error, Result};
-pub use filter::{Filter, Lookup, Numbers};
-pub use listing::{Fingerprints, Place};
-pub use planning::{Specs, Widths, filter_specs, select, slots_for};
+pub use record::{Numbers, Place, Specs, Widths};
+
+#[cfg(feature = "library")]
+pub use {
+    error::{Error, Result},
+    filter::{Filter, Lookup},
+    listing::Fingerprints,
+    planning::{filter_specs, select, slots_for},
+};

@@ -1,20 +1,7 @@
 //! Everything a filter holds, one fingerprint at a time.
 
-use crate::{Error, Filter, Numbers, Result, ffi};
+use crate::{Error, Filter, Numbers, Place, Result, ffi};
 use core::iter::FusedIterator;
-
-/// Where a listing stands: the next fingerprint's quotient, its slot, and how many remain; all 0
-/// when none do.
-#[repr(C)]
-#[derive(Clone, Copy, PartialEq, Eq, Hash, Debug, Default)]
-pub struct Place {
-    /// The quotient of the next fingerprint.
-    pub quotient: u64,
-    /// The slot where its remainder lies.
-    pub slot: u64,
-    /// How many fingerprints remain, it included.
-    pub remaining: u64,
-}
 
 /// The fingerprints of a filter, ascending, each as often as held.
 #[derive(Clone, Debug)]

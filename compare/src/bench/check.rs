@@ -5,14 +5,16 @@ use super::inputs::{Spread, holding, of_crate, percent, shape};
 use super::table::{Table, Work};
 use crate::model::Shape;
 use crate::original::numbers_of;
-use crate::proved::check::check;
 use std::hint::black_box;
+use strumblay::ffi::check;
 
+/// The rows at two sizes.
 pub fn rows(table: &mut Table) {
     row(table, shape(13, 8), 7000);
     row(table, shape(20, 8), percent(shape(20, 8), 90));
 }
 
+/// The rows by width.
 pub fn by_width(table: &mut Table) {
     for shape in super::widths() {
         row(table, shape, percent(shape, 90));

@@ -2,11 +2,12 @@
 
 use super::clock::timed;
 use super::table::{Table, Work};
-use crate::proved::foundation;
+use crate::proved::planning::select;
 use std::hint::black_box;
 
 const NUMBER: u64 = 100_000;
 
+/// The one row.
 pub fn rows(table: &mut Table) {
     let name = "select, random words";
     if !table.wants(name) {
@@ -20,7 +21,7 @@ pub fn rows(table: &mut Table) {
         name,
         work,
         |_| timed(|| sum(&asked, qfilter::Filter::word_select)),
-        |_| timed(|| sum(&asked, foundation::select)),
+        |_| timed(|| sum(&asked, select)),
     );
 }
 

@@ -6,8 +6,9 @@ use super::inputs::{Spread, digest, holding, of_crate, percent, shape};
 use super::table::{Table, Work};
 use crate::model::Shape;
 use crate::original::numbers_of;
-use crate::proved::growth;
+use crate::proved::writing;
 
+/// The rows of growth, then those of merge.
 pub fn rows(table: &mut Table) {
     let shapes = [shape(13, 8), shape(18, 10)];
     for shape in shapes {
@@ -19,6 +20,7 @@ pub fn rows(table: &mut Table) {
     }
 }
 
+/// The rows by width.
 pub fn by_width(table: &mut Table) {
     for shape in super::widths() {
         grow(table, shape);
@@ -50,7 +52,7 @@ fn grow(table: &mut Table, shape: Shape) {
             (time, digest(grown.buffer()))
         },
         |_| {
-            let (time, grown) = timed(|| growth::grow(buffer, n, &mut dest));
+            let (time, grown) = timed(|| writing::grow(buffer, n, &mut dest));
             grown.expect("it may grow");
             (time, digest(&dest))
         },
@@ -83,7 +85,7 @@ fn merge(table: &mut Table, shape: Shape, keep: bool) {
             (time, digest(merged.buffer()))
         },
         |_| {
-            let (time, done) = timed(|| growth::merge(lent, other, keep, &mut dest));
+            let (time, done) = timed(|| writing::merge(lent, other, keep, &mut dest));
             done.expect("there is room");
             (time, digest(&dest))
         },

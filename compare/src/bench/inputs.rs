@@ -13,6 +13,7 @@ pub enum Spread {
     Windows(u64),
 }
 
+/// A shape in short.
 pub fn shape(qbits: u8, rbits: u8) -> Shape {
     Shape { qbits, rbits }
 }
@@ -37,6 +38,7 @@ fn above(rng: &mut Rng, shape: Shape, fingerprint: u64) -> u64 {
     fingerprint | rng.next() & !(u64::MAX >> (64 - shape.width()))
 }
 
+/// So many fingerprints of the spread.
 pub fn holding(rng: &mut Rng, shape: Shape, spread: Spread, max_qbits: u8, len: u64) -> Filter {
     let held = (0..len).map(|_| shape.fingerprint(hash(rng, shape, spread))).collect();
     Filter::new(shape, max_qbits, held)

@@ -3,9 +3,10 @@
 use super::inputs::{Spread, holding};
 use super::writing::Writer;
 use crate::model::{Filter, Numbers, Shape};
-use crate::proved::insert::insert;
+use crate::proved::writing::insert;
 use crate::seed::Rng;
 
+/// Inserts, as a writer.
 pub struct Insert;
 
 impl Writer for Insert {

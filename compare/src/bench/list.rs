@@ -5,8 +5,9 @@ use super::inputs::{Spread, holding, of_crate, percent, shape};
 use super::table::{Table, Work};
 use crate::model::{Numbers, Place, Shape};
 use crate::original::numbers_of;
-use crate::proved::list::{begin, step};
+use crate::proved::reading::{list_begin, list_step};
 
+/// The rows at two sizes.
 pub fn rows(table: &mut Table) {
     for shape in [shape(13, 8), shape(20, 8)] {
         row(table, shape, false);
@@ -14,6 +15,7 @@ pub fn rows(table: &mut Table) {
     }
 }
 
+/// The rows by width.
 pub fn by_width(table: &mut Table) {
     for shape in super::widths() {
         row(table, shape, false);
@@ -31,7 +33,7 @@ fn row(table: &mut Table, shape: Shape, begins: bool) {
     let len = percent(shape, 90);
     let filter = of_crate(&holding(&mut rng, shape, Spread::Uniform, 0, len));
     let (buffer, n) = (filter.buffer(), numbers_of(&filter));
-    let first = begin(buffer, n).expect("it is sound");
+    let first = list_begin(buffer, n).expect("it is sound");
     let work = Work { batches: 4, operations: 4 * len };
     table.row(
         "list",
@@ -40,7 +42,8 @@ fn row(table: &mut Table, shape: Shape, begins: bool) {
         |_| timed(|| filter.fingerprints().fold(0, u64::wrapping_add)),
         |_| {
             timed(|| {
-                let first = if begins { begin(buffer, n).expect("it is sound") } else { first };
+                let first =
+                    if begins { list_begin(buffer, n).expect("it is sound") } else { first };
                 steps(buffer, n, first)
             })
         },
@@ -49,7 +52,7 @@ fn row(table: &mut Table, shape: Shape, begins: bool) {
 
 fn steps(buffer: &[u8], n: Numbers, mut place: Place) -> u64 {
     let mut sum = 0u64;
-    while let (Some(fingerprint), next) = step(buffer, n, place).expect("nothing is due") {
+    while let (Some(fingerprint), next) = list_step(buffer, n, place).expect("nothing is due") {
         sum = sum.wrapping_add(fingerprint);
         place = next;
     }

@@ -5,7 +5,7 @@ use super::inputs::{Asked, Spread, holding, lookups, of_crate, percent, shape};
 use super::table::{Table, Work};
 use crate::model::Shape;
 use crate::original::numbers_of;
-use crate::proved::lookup;
+use crate::proved::reading::{contains, count};
 use std::hint::black_box;
 
 const NUMBER: usize = 1_000_000;
@@ -17,6 +17,7 @@ enum Call {
     Count,
 }
 
+/// The rows of lookup, then those of count.
 pub fn rows(table: &mut Table) {
     use Asked::{Absent, Half, Held};
     use Spread::{Uniform, Windows};
@@ -30,6 +31,7 @@ pub fn rows(table: &mut Table) {
     }
 }
 
+/// The rows by width.
 pub fn by_width(table: &mut Table) {
     let asked = (Spread::Uniform, Asked::Half);
     for shape in (10..=22).map(|qbits| shape(qbits, 8)) {
@@ -67,14 +69,14 @@ fn row(
             &name,
             work,
             |i| timed(|| sum(batch(i), |hash| filter.contains_fingerprint(hash).into())),
-            |i| timed(|| sum(batch(i), |hash| held(lookup::contains(true, buffer, n, hash)))),
+            |i| timed(|| sum(batch(i), |hash| held(contains(true, buffer, n, hash)))),
         ),
         Call::Count => table.row(
             "lookup",
             &name,
             work,
             |i| timed(|| sum(batch(i), |hash| filter.count_fingerprint(hash))),
-            |i| timed(|| sum(batch(i), |hash| copies(lookup::count(true, buffer, n, hash)))),
+            |i| timed(|| sum(batch(i), |hash| copies(count(true, buffer, n, hash)))),
         ),
     }
 }

@@ -3,9 +3,10 @@
 use super::inputs::{Spread, holding};
 use super::writing::Writer;
 use crate::model::{Filter, Numbers, Shape};
-use crate::proved::remove::remove;
+use crate::proved::writing::remove;
 use crate::seed::Rng;
 
+/// Removes, as a writer.
 pub struct Remove;
 
 impl Writer for Remove {

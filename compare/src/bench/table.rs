@@ -5,6 +5,7 @@ use crate::seed::Rng;
 /// A row has the median of so many rounds.
 const ROUNDS: usize = 11;
 
+/// The table so far.
 pub struct Table {
     seed: u64,
     only: Option<String>,
@@ -24,6 +25,7 @@ pub struct Work {
 }
 
 impl Table {
+    /// Prints the head of the table.
     pub fn new(seed: u64, only: Option<&str>) -> Table {
         println!("| part | row | crate ns | proved ns | ratio | middle half |");
         println!("|---|---|---|---|---|---|");
@@ -85,6 +87,7 @@ impl Table {
         self.rows += 1;
     }
 
+    /// Fails if `only` left out every row.
     pub fn finish(self) {
         assert!(self.rows > 0, "no row of that name in this build");
     }

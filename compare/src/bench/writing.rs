@@ -35,6 +35,7 @@ impl Copies {
 
 /// Insert or remove, as each side does it.
 pub trait Writer {
+    /// The name in the first column.
     const PART: &'static str;
 
     /// The holding that a batch starts from, and its hashes.
@@ -47,6 +48,7 @@ pub trait Writer {
     fn proved(buffer: &mut [u8], n: &mut Numbers, hash: u64) -> u64;
 }
 
+/// The rows at two sizes, each at three loads.
 pub fn rows<W: Writer>(table: &mut Table) {
     for shape in [shape(13, 8), shape(20, 8)] {
         for load in [50, 90, 95] {
@@ -55,6 +57,7 @@ pub fn rows<W: Writer>(table: &mut Table) {
     }
 }
 
+/// The rows by width.
 pub fn by_width<W: Writer>(table: &mut Table) {
     for shape in super::widths() {
         row::<W>(table, shape, 90);

@@ -6,13 +6,14 @@ use super::Effort;
 use crate::call::{Call, ask_model};
 use crate::model::{Filter, Shape, carries};
 use crate::seed::Rng;
-use crate::sequence::Bench;
+use crate::sequence::Comparison;
 
 const NAME: &str = "aimed";
 
+/// Runs calls around rings until the aimed case has been met.
 pub fn drive(effort: Effort) {
     let mut rng = Rng::new(effort.seed, NAME);
-    let mut bench = Bench::new(NAME);
+    let mut comparison = Comparison::new(NAME);
     let mut met = 0;
     for (qbits, rbits, rounds) in [(9, 8, 200), (9, 1, 60), (9, 55, 60), (10, 5, 40)] {
         let shape = Shape { qbits, rbits };
@@ -20,11 +21,11 @@ pub fn drive(effort: Effort) {
             let (start, block) = ring(&mut rng, shape);
             let calls = around(&mut rng, &start, block);
             met += count_met(&start, &calls);
-            bench.run(&start, &calls);
+            comparison.run(&start, &calls);
         }
     }
     assert!(met > 0, "the aim was missed");
-    bench.finish(&format!(", {met} removals in the aimed case"));
+    comparison.finish(&format!(", {met} removals in the aimed case"));
 }
 
 /// A holding with one cluster that begins inside a block, brings about 255 into the next one,

@@ -5,9 +5,10 @@ use super::reads::some_len;
 use crate::damage::each;
 use crate::generate::Hashes;
 use crate::model::{Filter, Numbers, Shape, check};
-use crate::proved;
+use crate::proved::guarded::Guarded;
 use crate::seed::Rng;
 use crate::smallest::{describe, hex};
+use strumblay::ffi;
 
 const NAME: &str = "damage";
 
@@ -29,6 +30,7 @@ struct Tally {
     refused: u64,
 }
 
+/// Checks every damaged form of seeded filters.
 pub fn drive(effort: Effort) {
     let mut rng = Rng::new(effort.seed, NAME);
     let mut tally = Tally::default();
@@ -51,8 +53,8 @@ pub fn drive(effort: Effort) {
 impl Tally {
     fn compare(&mut self, filter: &Filter, numbers: Numbers, bytes: &[u8]) {
         let expected = check(numbers, bytes).err().unwrap_or(0);
-        let lent = proved::guarded::Guarded::new(bytes);
-        let got = proved::check::check(lent.bytes(), numbers);
+        let lent = Guarded::new(bytes);
+        let got = ffi::check(lent.bytes(), numbers);
         if got != expected {
             println!("{NAME}: the proved check DISAGREES\n  answer {got}, expected {expected}");
             println!("  numbers {numbers:?}");

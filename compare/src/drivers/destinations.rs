@@ -5,8 +5,8 @@ use super::Effort;
 use super::reads::some_len;
 use crate::generate::Hashes;
 use crate::model::{Filter, Numbers, Shape, check, insert_spare};
-use crate::proved::growth;
 use crate::proved::guarded::Guarded;
+use crate::proved::writing;
 use crate::seed::Rng;
 use crate::smallest::hex;
 use crate::wrong;
@@ -26,6 +26,7 @@ impl Display for Lent {
     }
 }
 
+/// Merges, grows and inserts with a spare where one or two things may be wrong.
 pub fn drive(effort: Effort) {
     let mut rng = Rng::new(effort.seed, NAME);
     let mut calls = 0;
@@ -65,12 +66,12 @@ fn merge(rng: &mut Rng, mine: &Lent, theirs: &Lent) {
     let merged = check(mine.numbers, &mine.bytes).and_then(|filter| filter.merge(&other?, keep));
     let (lent, other) = ((&mine.bytes[..], mine.numbers), (&theirs.bytes[..], theirs.numbers));
     let what = format!("merge, keep {keep}, with {theirs}");
-    into_dest(rng, mine, &what, merged, |dest| growth::merge(lent, other, keep, dest));
+    into_dest(rng, mine, &what, merged, |dest| writing::merge(lent, other, keep, dest));
 }
 
 fn grow(rng: &mut Rng, mine: &Lent) {
     let grown = check(mine.numbers, &mine.bytes).and_then(|filter| filter.grow());
-    into_dest(rng, mine, "grow", grown, |dest| growth::grow(&mine.bytes, mine.numbers, dest));
+    into_dest(rng, mine, "grow", grown, |dest| writing::grow(&mine.bytes, mine.numbers, dest));
 }
 
 /// Lends a destination of some length, and compares answer, record, bytes and marks.
@@ -110,7 +111,7 @@ fn spare(rng: &mut Rng, mine: &Lent) {
     for &quick in if checked == Err(6) { &[false][..] } else { &[false, true] } {
         let (mut old, mut spare) = (Guarded::new(&mine.bytes), spare.clone());
         let lent = (old.bytes_mut(), mine.numbers);
-        let got = growth::insert_spare(quick, lent, hash, max_count, spare.bytes_mut());
+        let got = writing::insert_spare(quick, lent, hash, max_count, spare.bytes_mut());
         let right = old.bytes() == old_bytes && spare.bytes() == spare_bytes;
         if got != expected || !right || !old.intact() || !spare.intact() {
             let what = format!("insert {hash:#x} {max_count} with {spare_len}, quick {quick}");

@@ -1,4 +1,4 @@
-//! Document 01's "Examples at the edges", asked of the model and of the original.
+//! docs/RULES.md, "Examples at the edges", asked of the model and of the original.
 
 use super::Effort;
 use crate::model::{Filter, Numbers, Shape, check, planning, program, select};
@@ -19,6 +19,7 @@ impl Table {
     }
 }
 
+/// Asks every example; they are the same in every run.
 pub fn drive(_effort: Effort) {
     let mut table = Table(0);
     numbers(&mut table);

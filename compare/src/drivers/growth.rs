@@ -5,7 +5,7 @@ use crate::call::{Call, ask_model};
 use crate::generate::Hashes;
 use crate::model::{Filter, Shape};
 use crate::seed::Rng;
-use crate::sequence::Bench;
+use crate::sequence::Comparison;
 
 const NAME: &str = "growth";
 
@@ -22,25 +22,26 @@ const STARTS: [(u8, u8, u8); 9] = [
     (6, 8, 0),
 ];
 
+/// Grows seeded filters, and inserts with a spare from empty on.
 pub fn drive(effort: Effort) {
     let mut rng = Rng::new(effort.seed, NAME);
-    let mut bench = Bench::new(NAME);
+    let mut comparison = Comparison::new(NAME);
     for (qbits, rbits, max_qbits) in STARTS {
         let shape = Shape { qbits, rbits };
         for _ in 0..((12_000 * effort.times) >> qbits).max(4) {
             let hashes = Hashes::spread(&mut rng, shape);
             let len = some_len(&mut rng, shape);
             let start = hashes.holding(&mut rng, max_qbits, len);
-            bench.run(&start, &grows(&start));
+            comparison.run(&start, &grows(&start));
         }
         for _ in 0..((1200 * effort.times) >> qbits).max(2) {
             let hashes = Hashes::spread(&mut rng, shape);
             let start = Filter::new(shape, max_qbits, Vec::new());
             let calls = inserts(&mut rng, &hashes, &start);
-            bench.run(&start, &calls);
+            comparison.run(&start, &calls);
         }
     }
-    bench.finish("");
+    comparison.finish("");
 }
 
 /// Grown until 7, twice at most beyond qbits 10, and listed each time.

@@ -1,9 +1,9 @@
 //! The proved library's buffer lengths for every pair of widths, and its fresh filters.
 
 use super::Effort;
-use crate::model::{Shape, fresh};
-use crate::proved::foundation;
+use crate::model::{Shape, Widths, fresh};
 use crate::proved::guarded::Guarded;
+use crate::proved::{planning, writing};
 use crate::seed::Rng;
 use crate::smallest::hex;
 use std::fmt::Debug;
@@ -13,17 +13,14 @@ const NAME: &str = "lengths";
 /// Longer destinations than this aren't made; a shorter one then stands for a wrong length.
 const LARGEST: u64 = 20_000;
 
+/// Asks every length, and makes fresh filters.
 pub fn drive(effort: Effort) {
     let mut calls = 0;
     for qbits in 0..=255 {
         for rbits in 0..=255 {
             let expected = Shape::new(qbits, rbits).map(Shape::buffer_len);
-            same(
-                "buffer length",
-                (qbits, rbits, 0),
-                foundation::buffer_len(qbits, rbits),
-                expected,
-            );
+            let widths = Widths { qbits, rbits, max_qbits: 0 };
+            same("buffer length", widths, planning::buffer_len(qbits, rbits), expected);
             calls += 1;
         }
     }
@@ -32,7 +29,7 @@ pub fn drive(effort: Effort) {
         for rbits in [0, 1, 2, 5, 8, 50, 53, 55, 57, 58, 59, 64, 250, 255] {
             for _ in 0..60 * effort.times {
                 let max_qbits = if rng.one_in(3) { 0 } else { rng.below(70) as u8 };
-                one(&mut rng, qbits, rbits, max_qbits);
+                one(&mut rng, Widths { qbits, rbits, max_qbits });
                 calls += 1;
             }
         }
@@ -41,21 +38,21 @@ pub fn drive(effort: Effort) {
 }
 
 /// A fresh filter in a destination that has the right length or nearly so.
-fn one(rng: &mut Rng, qbits: u8, rbits: u8, max_qbits: u8) {
-    let right = Shape::new(qbits, rbits).map_or(89, Shape::buffer_len).min(LARGEST);
+fn one(rng: &mut Rng, widths: Widths) {
+    let right = Shape::new(widths.qbits, widths.rbits).map_or(89, Shape::buffer_len).min(LARGEST);
     let len = (right + rng.pick(&[0, 0, 0, 0, 1, 2, 9]))
         .saturating_sub(rng.pick(&[0, 0, 0, 0, 1, 8, LARGEST]));
     let mut dest = Guarded::garbage(len);
-    let expected = fresh(qbits, rbits, max_qbits, len).map(|numbers| (0, numbers));
-    let got = foundation::fresh(qbits, rbits, max_qbits, dest.bytes_mut());
-    same("fresh", (qbits, rbits, max_qbits), got, expected);
+    let expected = fresh(widths, len).map(|numbers| (0, numbers));
+    let got = writing::fresh(widths, dest.bytes_mut());
+    same("fresh", widths, got, expected);
     let bytes =
         if got.is_ok() { vec![0; len as usize] } else { Guarded::garbage(len).bytes().to_vec() };
-    same("fresh bytes", (qbits, rbits, max_qbits), hex(dest.bytes()), hex(&bytes));
-    same("marks", (qbits, rbits, max_qbits), dest.intact(), true);
+    same("fresh bytes", widths, hex(dest.bytes()), hex(&bytes));
+    same("marks", widths, dest.intact(), true);
 }
 
-fn same<T: PartialEq + Debug>(what: &str, widths: (u8, u8, u8), got: T, expected: T) {
+fn same<T: PartialEq + Debug>(what: &str, widths: Widths, got: T, expected: T) {
     if got != expected {
         println!("{NAME}: {what} DISAGREES\n  widths {widths:?}: {got:?}, expected {expected:?}");
         std::process::exit(1);

@@ -5,7 +5,7 @@ use crate::call::Call;
 use crate::generate::Hashes;
 use crate::model::{Filter, Shape};
 use crate::seed::Rng;
-use crate::sequence::Bench;
+use crate::sequence::Comparison;
 
 const NAME: &str = "merges";
 
@@ -27,20 +27,21 @@ const PAIRS: [((u8, u8), (u8, u8)); 14] = [
     ((7, 8), (6, 8)),
 ];
 
+/// Merges seeded filters of every pair of widths.
 pub fn drive(effort: Effort) {
     let mut rng = Rng::new(effort.seed, NAME);
-    let mut bench = Bench::new(NAME);
+    let mut comparison = Comparison::new(NAME);
     for (mine, theirs) in PAIRS {
         let mine = Shape { qbits: mine.0, rbits: mine.1 };
         let theirs = Shape { qbits: theirs.0, rbits: theirs.1 };
         for _ in 0..(250_000 * effort.times) >> mine.qbits.max(theirs.qbits) {
-            pair(&mut bench, &mut rng, mine, theirs);
+            pair(&mut comparison, &mut rng, mine, theirs);
         }
     }
-    bench.finish("");
+    comparison.finish("");
 }
 
-fn pair(bench: &mut Bench, rng: &mut Rng, mine: Shape, theirs: Shape) {
+fn pair(comparison: &mut Comparison, rng: &mut Rng, mine: Shape, theirs: Shape) {
     let hashes = Hashes::spread(rng, mine);
     let max_qbits = some_max_qbits(rng, mine);
     let len = some_len(rng, mine);
@@ -48,7 +49,7 @@ fn pair(bench: &mut Bench, rng: &mut Rng, mine: Shape, theirs: Shape) {
     let calls: Vec<Call> = (0..1 + rng.below(3))
         .map(|_| Call::Merge { other: other(rng, &hashes, &start, theirs), keep: rng.one_in(2) })
         .collect();
-    bench.run(&start, &calls);
+    comparison.run(&start, &calls);
 }
 
 /// None, or anything number 4 lets pass, small enough to hold in memory.

@@ -12,19 +12,13 @@ mod reads;
 mod select;
 mod writes;
 
-#[cfg(feature = "proved-check")]
+#[cfg(feature = "proved")]
 mod damage;
-#[cfg(feature = "proved-growth")]
+#[cfg(feature = "proved")]
 mod destinations;
-#[cfg(feature = "proved-foundation")]
+#[cfg(feature = "proved")]
 mod lengths;
-#[cfg(any(
-    feature = "proved-lookup",
-    feature = "proved-list",
-    feature = "proved-insert",
-    feature = "proved-remove",
-    feature = "proved-growth"
-))]
+#[cfg(feature = "proved")]
 mod refusals;
 
 use crate::model::Shape;
@@ -37,6 +31,7 @@ pub struct Effort {
     pub times: u64,
 }
 
+/// A name for `--only`, and what it runs.
 pub type Driver = (&'static str, fn(Effort));
 
 /// Every driver of this build, in the order they run.
@@ -51,19 +46,13 @@ pub const ALL: &[Driver] = &[
     ("merges", merges::drive),
     ("program", program::drive),
     ("vectors", |_| crate::vectors::compare()),
-    #[cfg(feature = "proved-foundation")]
+    #[cfg(feature = "proved")]
     ("lengths", lengths::drive),
-    #[cfg(feature = "proved-check")]
+    #[cfg(feature = "proved")]
     ("damage", damage::drive),
-    #[cfg(any(
-        feature = "proved-lookup",
-        feature = "proved-list",
-        feature = "proved-insert",
-        feature = "proved-remove",
-        feature = "proved-growth"
-    ))]
+    #[cfg(feature = "proved")]
     ("refusals", refusals::drive),
-    #[cfg(feature = "proved-growth")]
+    #[cfg(feature = "proved")]
     ("destinations", destinations::drive),
 ];
 

@@ -4,9 +4,12 @@
 use super::Effort;
 use super::inputs::{capacities, rates};
 use crate::model::planning::{
-    Plan, Specs, filter_specs, plan, plan_with, rbits_for, slots_for, specs_with,
+    bits, filter_specs, plan, plan_with, rbits_for, slots_for, specs_with,
 };
-use crate::original::{number_of, numbers_of};
+use crate::model::{Shape, Specs, Widths};
+use crate::original::{number_of, numbers_of, widths_of};
+#[cfg(feature = "proved")]
+use crate::proved::planning as proved;
 use crate::seed::Rng;
 use std::fmt::Debug;
 use std::panic::{catch_unwind, set_hook, take_hook};
@@ -20,15 +23,16 @@ const LARGEST_BUFFER: u64 = 1 << 24;
 struct Tally {
     agree: u64,
     departures: u64,
-    /// The smallest specs that depart: capacity, rbits by document 01, rate's bits.
+    /// The smallest specs that depart: capacity, rbits by the rules, rate's bits.
     first: Option<(u64, u8, u64)>,
-    /// The smallest that document 01 refuses.
+    /// The smallest that the rules refuse.
     first_refused: Option<(u64, u8, u64)>,
     /// The most ulps below a power of two at which the original departs.
     ulps: u64,
     proved: u64,
 }
 
+/// Plans for every capacity and every rate.
 pub fn drive(effort: Effort) {
     let mut rng = Rng::new(effort.seed, NAME);
     let capacities = capacities(&mut rng, 200 * effort.times);
@@ -56,21 +60,15 @@ impl Tally {
     fn slots(&mut self, capacity: u64) {
         let got = qfilter::Filter::needed_slots(capacity).map_err(number_of);
         self.same(&format!("slots for {capacity}"), got, slots_for(capacity));
-        #[cfg(feature = "proved-foundation")]
-        self.same_proved(
-            "slots",
-            crate::proved::foundation::slots_for(capacity),
-            slots_for(capacity),
-        );
+        #[cfg(feature = "proved")]
+        self.same_proved("slots", proved::slots_for(capacity), slots_for(capacity));
     }
 
     fn specs(&mut self, capacity: u64, rate: f64) {
-        let expected = filter_specs(capacity, rate).map(|specs| specs.bits());
+        let expected = filter_specs(capacity, rate).map(bits);
         let got = qfilter::filter_specs(capacity, rate).map_err(number_of);
-        let got = got.map(|specs| from_original(specs).bits());
-        if got != expected
-            && specs_with(capacity, rbits_for(rate) - 1).map(|specs| specs.bits()) == got
-        {
+        let got = got.map(|specs| bits(from_original(specs)));
+        if got != expected && specs_with(capacity, rbits_for(rate) - 1).map(bits) == got {
             self.departs(rate);
             let first = if expected.is_err() { &mut self.first_refused } else { &mut self.first };
             let this = (capacity, rbits_for(rate), rate.to_bits());
@@ -78,10 +76,10 @@ impl Tally {
         } else {
             self.same(&format!("specs for {capacity} at {:#x}", rate.to_bits()), got, expected);
         }
-        #[cfg(feature = "proved-foundation")]
+        #[cfg(feature = "proved")]
         self.same_proved(
             &format!("specs for {capacity} at {:#x}", rate.to_bits()),
-            crate::proved::foundation::filter_specs(capacity, rate).map(|specs| specs.bits()),
+            proved::filter_specs(capacity, rate).map(bits),
             expected,
         );
     }
@@ -89,8 +87,8 @@ impl Tally {
     fn plan(&mut self, initial: u64, max: u64, rate: f64) {
         let what = format!("plan for {initial} to {max} at {:#x}", rate.to_bits());
         let expected = plan(initial, max, rate);
-        #[cfg(feature = "proved-foundation")]
-        self.same_proved(&what, crate::proved::foundation::plan(initial, max, rate), expected);
+        #[cfg(feature = "proved")]
+        self.same_proved(&what, proved::plan(initial, max, rate), expected);
         let rounded = plan_with(initial, max, rbits_for(rate).saturating_sub(1).max(1));
         if [expected, rounded].into_iter().flatten().any(|plan| buffer_len(plan) > LARGEST_BUFFER) {
             return;
@@ -104,7 +102,7 @@ impl Tally {
         }
     }
 
-    /// Where document 01 gives 11 the original panics.
+    /// Where the rules give 11 the original panics.
     fn refusal_11(&mut self, a: u64, b: u64, rate: f64) {
         if a == b {
             return;
@@ -114,11 +112,11 @@ impl Tally {
         let asked =
             catch_unwind(|| qfilter::Filter::new_resizeable(a.max(b), a.min(b), rate).is_ok());
         set_hook(hook);
-        let got = if asked.is_err() { Err(11) } else { Ok(Plan::default()) };
+        let got = if asked.is_err() { Err(11) } else { Ok(Widths::default()) };
         let what = format!("plan for {} to {}", a.max(b), a.min(b));
         self.same(&what, got, plan(a.max(b), a.min(b), rate));
-        #[cfg(feature = "proved-foundation")]
-        self.same_proved(&what, crate::proved::foundation::plan(a.max(b), a.min(b), rate), Err(11));
+        #[cfg(feature = "proved")]
+        self.same_proved(&what, proved::plan(a.max(b), a.min(b), rate), Err(11));
     }
 
     fn same<T: PartialEq + Debug>(&mut self, what: &str, got: T, expected: T) {
@@ -126,7 +124,7 @@ impl Tally {
         self.agree += 1;
     }
 
-    #[cfg(feature = "proved-foundation")]
+    #[cfg(feature = "proved")]
     fn same_proved<T: PartialEq + Debug>(&mut self, what: &str, got: T, expected: T) {
         assert_same("the proved library", what, got, expected);
         self.proved += 1;
@@ -144,7 +142,7 @@ impl Tally {
 
     fn finish(&self) {
         let Tally { agree, proved, departures, ulps, .. } = self;
-        for (first, then) in [(self.first, ""), (self.first_refused, ", and document 01 gives 9")] {
+        for (first, then) in [(self.first, ""), (self.first_refused, ", and the rules give 9")] {
             let Some((capacity, rbits, rate)) = first else { continue };
             let taken = rbits - 1;
             println!(
@@ -166,18 +164,19 @@ fn assert_same<T: PartialEq + Debug>(who: &str, what: &str, got: T, expected: T)
     }
 }
 
-fn buffer_len(plan: Plan) -> u64 {
-    crate::model::Shape { qbits: plan.qbits, rbits: plan.rbits }.buffer_len()
+fn buffer_len(plan: Widths) -> u64 {
+    Shape { qbits: plan.qbits, rbits: plan.rbits }.buffer_len()
 }
 
 /// The plan that the original carried out; its buffer must be a fresh one of that plan.
-fn plan_of(filter: qfilter::Filter) -> Plan {
-    let n = numbers_of(&filter);
-    let plan = Plan { qbits: n.qbits, rbits: n.rbits, max_qbits: n.max_qbits };
-    assert!(n.len == 0 && filter.buffer().len() as u64 == buffer_len(plan));
+fn plan_of(filter: qfilter::Filter) -> Widths {
+    let plan = widths_of(&filter);
+    let len = numbers_of(&filter).len;
+    assert!(len == 0 && filter.buffer().len() as u64 == buffer_len(plan));
     plan
 }
 
+/// The original's specs as the rules have them.
 pub fn from_original(specs: qfilter::FilterSpecs) -> Specs {
     Specs {
         max_capacity: specs.max_capacity,

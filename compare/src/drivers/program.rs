@@ -12,6 +12,7 @@ use std::process::{Command, Stdio};
 
 const NAME: &str = "program";
 
+/// Runs the program on files that may be wrong.
 pub fn drive(effort: Effort) {
     let Some(path) = std::env::var_os("STRUMBLAY_PROGRAM") else {
         return;

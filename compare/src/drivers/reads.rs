@@ -6,14 +6,15 @@ use crate::call::Call;
 use crate::generate::Hashes;
 use crate::model::{Filter, Shape, check};
 use crate::seed::Rng;
-use crate::sequence::Bench;
+use crate::sequence::Comparison;
 use crate::smallest::describe;
 
 const NAME: &str = "reads";
 
+/// Reads seeded holdings of every shape.
 pub fn drive(effort: Effort) {
     let mut rng = Rng::new(effort.seed, NAME);
-    let mut bench = Bench::new(NAME);
+    let mut comparison = Comparison::new(NAME);
     let mut holdings = 0;
     for shape in shapes() {
         for _ in 0..((20_000 * effort.times) >> shape.qbits).max(6) {
@@ -21,11 +22,11 @@ pub fn drive(effort: Effort) {
             let len = some_len(&mut rng, shape);
             let filter = hashes.holding(&mut rng, 0, len);
             reads_back(&filter);
-            bench.run(&filter, &reads(&mut rng, &hashes, &filter));
+            comparison.run(&filter, &reads(&mut rng, &hashes, &filter));
             holdings += 1;
         }
     }
-    bench.finish(&format!(", {holdings} holdings read back from their image"));
+    comparison.finish(&format!(", {holdings} holdings read back from their image"));
 }
 
 /// Any len that may be sound, with the edges often.

@@ -5,8 +5,10 @@ use super::Effort;
 use super::reads::some_len;
 use crate::call::Call;
 use crate::generate::Hashes;
-use crate::model::{Filter, Numbers, Shape};
+use crate::model::{Filter, Numbers, Place, Shape, due_before_image};
+use crate::proved::guarded::Guarded;
 use crate::proved::raw::{Seen, compare};
+use crate::proved::reading::list_step;
 use crate::proved::subject::Proved;
 use crate::seed::Rng;
 use crate::smallest::hex;
@@ -21,6 +23,7 @@ struct Tally {
     ended: u64,
 }
 
+/// Asks every call on every wrong form of seeded filters.
 pub fn drive(effort: Effort) {
     let mut rng = Rng::new(effort.seed, NAME);
     let mut tally = Tally { subjects: [Proved::checked(), Proved::quick()], agreed: 0, ended: 0 };
@@ -62,7 +65,6 @@ impl Tally {
         for call in calls {
             self.one(n, bytes, &call);
         }
-        #[cfg(feature = "proved-list")]
         self.step(rng, n, bytes);
     }
 
@@ -80,13 +82,12 @@ impl Tally {
     }
 
     /// A step from a place that may be made up: 1 to 5 are fixed, and that it ends.
-    #[cfg(feature = "proved-list")]
     fn step(&mut self, rng: &mut Rng, n: Numbers, bytes: &[u8]) {
         let any = |rng: &mut Rng| rng.next() >> rng.pick(&[0, 32, 55, 58, 60]);
-        let place = crate::model::Place { quotient: any(rng), slot: any(rng), remaining: any(rng) };
-        let lent = crate::proved::guarded::Guarded::new(bytes);
-        let got = crate::proved::list::step(lent.bytes(), n, place);
-        match crate::model::due_before_image(n, bytes.len() as u64) {
+        let place = Place { quotient: any(rng), slot: any(rng), remaining: any(rng) };
+        let lent = Guarded::new(bytes);
+        let got = list_step(lent.bytes(), n, place);
+        match due_before_image(n, bytes.len() as u64) {
             Ok(_) => self.ended += 1,
             Err(number) if got == Err(number) => self.agreed += 1,
             Err(number) => {

@@ -52,14 +52,15 @@ impl Body {
     }
 }
 
+/// Asks every body for every word and rank.
 pub fn drive(effort: Effort) {
     let mut rng = Rng::new(effort.seed, NAME);
     // The assembly takes n modulo 64; a build without it asks the portable body twice.
     let mut bodies = [
         Body::new("word", 64, qfilter::Filter::word_select),
         Body::new("portable", 128, qfilter::Filter::portable_select),
-        #[cfg(feature = "proved-foundation")]
-        Body::new("proved", u64::MAX, crate::proved::foundation::select),
+        #[cfg(feature = "proved")]
+        Body::new("proved", u64::MAX, crate::proved::planning::select),
     ];
     for x in words(&mut rng, 2000 * effort.times) {
         for n in ranks() {

@@ -4,7 +4,7 @@ use super::{Effort, shapes};
 use crate::generate::{Hashes, SPREADS};
 use crate::model::Shape;
 use crate::seed::Rng;
-use crate::sequence::Bench;
+use crate::sequence::Comparison;
 
 const NAME: &str = "writes";
 
@@ -17,26 +17,27 @@ fn walks(shape: Shape) -> u64 {
     }
 }
 
+/// Walks up and down in every shape and spread.
 pub fn drive(effort: Effort) {
     let mut rng = Rng::new(effort.seed, NAME);
-    let mut bench = Bench::new(NAME);
+    let mut comparison = Comparison::new(NAME);
     for shape in shapes() {
         for spread in SPREADS {
             for round in 0..walks(shape) * effort.times {
                 let hashes = Hashes::new(&mut rng, shape, spread);
                 // In large shapes the whole way up and down is long mode's.
                 let whole = shape.qbits < 10 || round == 1;
-                walk(&mut bench, &mut rng, &hashes, shape, whole);
+                walk(&mut comparison, &mut rng, &hashes, shape, whole);
             }
         }
     }
-    bench.finish("");
+    comparison.finish("");
 }
 
 /// From empty to capacity and back, or a part of it near capacity, where the clusters are long.
-fn walk(bench: &mut Bench, rng: &mut Rng, hashes: &Hashes, shape: Shape, whole: bool) {
+fn walk(comparison: &mut Comparison, rng: &mut Rng, hashes: &Hashes, shape: Shape, whole: bool) {
     let (len, limit) = if whole { (0, 40_000) } else { (shape.capacity() - 60, 400) };
     let start = hashes.holding(rng, 0, len);
     let calls = hashes.up_and_down(rng, &start, limit);
-    bench.run(&start, &calls);
+    comparison.run(&start, &calls);
 }

@@ -1,4 +1,4 @@
-//! Document 01, "When the box says no": numbers 1 to 6, the sixth by finding the holding.
+//! docs/RULES.md, "Refusals" and "Sound": numbers 1 to 6, the sixth by finding the holding.
 
 use super::{Filter, Numbers, Shape};
 

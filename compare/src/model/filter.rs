@@ -1,7 +1,7 @@
-//! Document 01's lookup, count, insert, remove and listing, on the holding itself.
+//! docs/RULES.md, "Lookup and count", "Insert", "Remove" and "Listing", on the holding itself.
 
 use super::image::{carries, image};
-use super::{Numbers, Shape};
+use super::{Numbers, Place, Shape};
 
 /// A sound filter: its numbers, and what it holds in ascending order.
 #[derive(Clone, PartialEq, Eq, Debug)]
@@ -9,15 +9,6 @@ pub struct Filter {
     pub shape: Shape,
     pub max_qbits: u8,
     pub held: Vec<u64>,
-}
-
-/// The next fingerprint's quotient, its slot modulo slots, and how many remain.
-#[repr(C)]
-#[derive(Clone, Copy, PartialEq, Eq, Debug, Default)]
-pub struct Place {
-    pub quotient: u64,
-    pub slot: u64,
-    pub remaining: u64,
 }
 
 impl Filter {
@@ -28,15 +19,18 @@ impl Filter {
         Filter { shape, max_qbits, held }
     }
 
+    /// How many are held.
     pub fn len(&self) -> u64 {
         self.held.len() as u64
     }
 
+    /// The record.
     pub fn numbers(&self) -> Numbers {
         let Shape { qbits, rbits } = self.shape;
         Numbers { len: self.len(), qbits, rbits, max_qbits: self.max_qbits }
     }
 
+    /// The bytes.
     pub fn image(&self) -> Vec<u8> {
         image(self.shape, &self.held)
     }

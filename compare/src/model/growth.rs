@@ -1,11 +1,12 @@
-//! Document 01's fresh filter, growth, insert with a spare, and merge. A destination is told by
-//! its length alone, since its bytes never matter.
+//! A fresh filter, and docs/RULES.md, "Growth", with insert with a spare, and "Merge". A destination
+//! is told by its length alone, since its bytes never matter.
 
-use super::{Filter, Numbers, Shape};
+use super::{Filter, Numbers, Shape, Widths};
 use std::cmp::Ordering;
 
 /// Numbers of a fresh filter: 1, 4, 12, or len 0.
-pub fn fresh(qbits: u8, rbits: u8, max_qbits: u8, dest_len: u64) -> Result<Numbers, u64> {
+pub fn fresh(widths: Widths, dest_len: u64) -> Result<Numbers, u64> {
+    let Widths { qbits, rbits, max_qbits } = widths;
     let shape = Shape::new(qbits, rbits)?;
     if !shape.allows(max_qbits) {
         return Err(4);

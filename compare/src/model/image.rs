@@ -1,4 +1,4 @@
-//! Document 01, "The image of a holding".
+//! docs/RULES.md, "The image of a holding" and "The bytes of a block".
 
 use super::Shape;
 

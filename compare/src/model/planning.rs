@@ -1,37 +1,18 @@
-//! Document 01, "Planning".
+//! docs/RULES.md, "Planning".
 
-use super::Shape;
+use super::{Shape, Specs, Widths};
 
 /// The capacity of 2^59 slots; above it number 10 is given.
 pub const MAX_CAPACITY: u64 = 547637714688252314;
 
-#[derive(Clone, Copy, PartialEq, Debug, Default)]
-pub struct Specs {
-    pub max_capacity: u64,
-    pub max_error_ratio: f64,
-    pub bits_per_item: f64,
-    pub memory_bytes_min: u64,
-    pub memory_bytes_max: u64,
-    pub fingerprint_bits: u64,
+/// Every field as it stands in memory, so that floats are compared bit for bit.
+pub fn bits(specs: Specs) -> [u64; 6] {
+    let floats = [specs.max_error_ratio, specs.bits_per_item].map(f64::to_bits);
+    let bytes = [specs.memory_bytes_min, specs.memory_bytes_max];
+    [specs.max_capacity, floats[0], floats[1], bytes[0], bytes[1], specs.fingerprint_bits]
 }
 
-impl Specs {
-    /// Every field as it stands in memory, so that floats are compared bit for bit.
-    pub fn bits(&self) -> [u64; 6] {
-        let floats = [self.max_error_ratio, self.bits_per_item].map(f64::to_bits);
-        let bytes = [self.memory_bytes_min, self.memory_bytes_max];
-        [self.max_capacity, floats[0], floats[1], bytes[0], bytes[1], self.fingerprint_bits]
-    }
-}
-
-#[derive(Clone, Copy, PartialEq, Eq, Debug, Default)]
-pub struct Plan {
-    pub qbits: u8,
-    pub rbits: u8,
-    pub max_qbits: u8,
-}
-
-/// The smallest power of two, 64 or more, whose capacity suffices: 10.
+/// The slots for a capacity, a power of two from 64 on; or 10.
 pub fn slots_for(capacity: u64) -> Result<u64, u64> {
     if capacity > MAX_CAPACITY {
         return Err(10);
@@ -43,7 +24,7 @@ pub fn slots_for(capacity: u64) -> Result<u64, u64> {
     Ok(slots)
 }
 
-/// The least k ≥ 1 with 2^-k at or below the clamped rate, by exact halving; 1 if not a number.
+/// rbits for a rate that is clamped first, by exact halving; 1 if it is no number.
 pub fn rbits_for(rate: f64) -> u8 {
     if rate.is_nan() {
         return 1;
@@ -79,13 +60,13 @@ pub fn specs_with(capacity: u64, rbits: u8) -> Result<Specs, u64> {
     })
 }
 
-/// The plan of a resizeable filter: 11, 10, 9.
-pub fn plan(initial: u64, max: u64, rate: f64) -> Result<Plan, u64> {
+/// The widths of a resizeable filter: 11, 10, 9.
+pub fn plan(initial: u64, max: u64, rate: f64) -> Result<Widths, u64> {
     plan_with(initial, max, rbits_for(rate))
 }
 
-/// The plan for the rbits that a rate was found to need: 11, 10, 9.
-pub fn plan_with(initial: u64, max: u64, rbits: u8) -> Result<Plan, u64> {
+/// The widths for the rbits that a rate was found to need: 11, 10, 9.
+pub fn plan_with(initial: u64, max: u64, rbits: u8) -> Result<Widths, u64> {
     if max < initial {
         return Err(11);
     }
@@ -93,7 +74,7 @@ pub fn plan_with(initial: u64, max: u64, rbits: u8) -> Result<Plan, u64> {
     let max_qbits = slots_for(max)?.ilog2() as u8;
     let shape = within_64(qbits, rbits + (max_qbits - qbits))?;
     let max_qbits = if max_qbits == qbits { 0 } else { max_qbits };
-    Ok(Plan { qbits, rbits: shape.rbits, max_qbits })
+    Ok(Widths { qbits, rbits: shape.rbits, max_qbits })
 }
 
 /// Number 9.

@@ -1,4 +1,4 @@
-//! Document 01, "Check program": what it writes for an input.
+//! docs/RULES.md, "The check program": what it writes for an input.
 
 use super::{Numbers, Shape, check};
 use std::fmt::Write;

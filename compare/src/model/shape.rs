@@ -1,4 +1,4 @@
-//! Document 01, "A filter and its numbers": widths, and the lengths that follow from them.
+//! docs/RULES.md, "A filter and its record": widths, and the lengths that follow from them.
 
 /// The widths of a filter, known to pass number 1.
 #[derive(Clone, Copy, PartialEq, Eq, Debug)]
@@ -7,18 +7,10 @@ pub struct Shape {
     pub rbits: u8,
 }
 
-/// The record beside a buffer. It is laid out for C, so that `proved` can pass it as it is.
-#[repr(C)]
-#[derive(Clone, Copy, PartialEq, Eq, Debug, Default)]
-pub struct Numbers {
-    pub len: u64,
-    pub qbits: u8,
-    pub rbits: u8,
-    pub max_qbits: u8,
-}
-
 impl Shape {
+    /// The smallest qbits.
     pub const MIN_QBITS: u8 = 6;
+    /// The largest qbits.
     pub const MAX_QBITS: u8 = 59;
 
     /// The shape of these widths, or number 1.
@@ -30,6 +22,7 @@ impl Shape {
         Ok(Shape { qbits, rbits })
     }
 
+    /// 2^qbits.
     pub fn slots(self) -> u64 {
         1 << self.qbits
     }
@@ -39,6 +32,7 @@ impl Shape {
         (19 * self.slots()).div_ceil(20)
     }
 
+    /// A block has 64 slots.
     pub fn blocks(self) -> u64 {
         self.slots() / 64
     }
@@ -48,6 +42,7 @@ impl Shape {
         17 + 8 * u64::from(self.rbits)
     }
 
+    /// All blocks, and eight bytes behind them.
     pub fn buffer_len(self) -> u64 {
         self.blocks() * self.block_len() + 8
     }
@@ -62,10 +57,12 @@ impl Shape {
         hash & (u64::MAX >> (64 - self.width()))
     }
 
+    /// The high bits of a fingerprint.
     pub fn quotient(self, fingerprint: u64) -> u64 {
         fingerprint >> self.rbits
     }
 
+    /// The low bits of a fingerprint.
     pub fn remainder(self, fingerprint: u64) -> u64 {
         fingerprint & ((1 << self.rbits) - 1)
     }

@@ -26,6 +26,7 @@ thread_local! {
     static AT_END: RefCell<bool> = const { RefCell::new(false) };
 }
 
+/// Bytes of any length, guarded.
 pub struct Guarded {
     /// The first open byte.
     open: *mut u8,
@@ -35,6 +36,7 @@ pub struct Guarded {
 }
 
 impl Guarded {
+    /// A copy of the bytes.
     pub fn new(bytes: &[u8]) -> Guarded {
         let len = bytes.len();
         let pages = len.div_ceil(PAGE).max(1);
@@ -52,10 +54,12 @@ impl Guarded {
         Guarded::new(&bytes)
     }
 
+    /// The bytes.
     pub fn bytes(&self) -> &[u8] {
         &self.open()[self.at..self.at + self.len]
     }
 
+    /// The bytes, to be written.
     pub fn bytes_mut(&mut self) -> &mut [u8] {
         let (at, len) = (self.at, self.len);
         &mut self.open_mut()[at..at + len]

@@ -1,4 +1,4 @@
-//! Calls on numbers and bytes that may not be sound: what document 01 fixes about them, and
+//! Calls on numbers and bytes that may not be sound: what docs/RULES.md fixes about them, and
 //! whether the proved library keeps to it.
 
 use super::subject::Proved;

@@ -1,13 +1,12 @@
 //! The proved library as a subject, once by its checked calls and once by its quick ones.
 
 use super::guarded::Guarded;
-use crate::call::{Answer, Call};
-use crate::model::{Filter, Numbers};
+use super::{reading, writing};
+use crate::call::{Answer, Call, grown_len};
+use crate::model::{Filter, Numbers, Shape};
 use crate::subject::Subject;
 
-#[cfg(feature = "proved-growth")]
-use crate::call::grown_len;
-
+/// A filter that the proved library works on.
 pub struct Proved {
     quick: bool,
     numbers: Numbers,
@@ -17,14 +16,17 @@ pub struct Proved {
 type Asked = Result<Answer, u64>;
 
 impl Proved {
+    /// The subject that makes the checked calls.
     pub fn checked() -> Proved {
         Proved { quick: false, numbers: Numbers::default(), buffer: Guarded::new(&[]) }
     }
 
+    /// The subject that makes the quick calls.
     pub fn quick() -> Proved {
         Proved { quick: true, ..Proved::checked() }
     }
 
+    /// Whether it makes the quick calls.
     pub fn is_quick(&self) -> bool {
         self.quick
     }
@@ -35,54 +37,41 @@ impl Proved {
         self.buffer = Guarded::new(bytes);
     }
 
-    /// The call as this build offers it.
+    /// The call, if it is offered: listing, growth and merge have no quick form.
     fn offered(&mut self, call: &Call, after: Numbers) -> Option<Asked> {
-        let _ = after;
         match *call {
-            #[cfg(feature = "proved-lookup")]
             Call::Contains { hash } => Some(self.contains(hash)),
-            #[cfg(feature = "proved-lookup")]
             Call::Count { hash } => Some(self.count(hash)),
-            #[cfg(feature = "proved-insert")]
             Call::Insert { hash, max_count } => Some(self.insert(hash, max_count)),
-            #[cfg(feature = "proved-remove")]
             Call::Remove { hash } => Some(self.remove(hash)),
-            #[cfg(feature = "proved-list")]
             Call::List if !self.quick => Some(self.list()),
-            #[cfg(feature = "proved-growth")]
             Call::InsertSpare { hash, max_count } => Some(self.insert_spare(hash, max_count)),
-            #[cfg(feature = "proved-growth")]
             Call::Grow if !self.quick => Some(self.grow(after)),
-            #[cfg(feature = "proved-growth")]
             Call::Merge { ref other, keep } if !self.quick => Some(self.merge(other, keep, after)),
-            _ => None,
+            Call::List | Call::Grow | Call::Merge { .. } => None,
         }
     }
 
-    #[cfg(feature = "proved-lookup")]
     fn contains(&self, hash: u64) -> Asked {
         let (held, compared) =
-            super::lookup::contains(self.quick, self.buffer.bytes(), self.numbers, hash)?;
+            reading::contains(self.quick, self.buffer.bytes(), self.numbers, hash)?;
         Ok(Answer::Held { held, compared: Some(compared) })
     }
 
-    #[cfg(feature = "proved-lookup")]
     fn count(&self, hash: u64) -> Asked {
-        super::lookup::count(self.quick, self.buffer.bytes(), self.numbers, hash).map(Answer::Count)
+        reading::count(self.quick, self.buffer.bytes(), self.numbers, hash).map(Answer::Count)
     }
 
-    #[cfg(feature = "proved-insert")]
     fn insert(&mut self, hash: u64, max_count: u64) -> Asked {
         let (buffer, n) = (self.buffer.bytes_mut(), self.numbers);
-        let (count, numbers) = super::insert::insert(self.quick, buffer, n, hash, max_count)?;
+        let (count, numbers) = writing::insert(self.quick, buffer, n, hash, max_count)?;
         self.numbers = numbers;
         Ok(Answer::Count(count))
     }
 
-    #[cfg(feature = "proved-remove")]
     fn remove(&mut self, hash: u64) -> Asked {
         let (buffer, n) = (self.buffer.bytes_mut(), self.numbers);
-        let (removed, numbers) = super::remove::remove(self.quick, buffer, n, hash)?;
+        let (removed, numbers) = writing::remove(self.quick, buffer, n, hash)?;
         self.numbers = numbers;
         match removed {
             0 | 1 => Ok(Answer::Removed(removed == 1)),
@@ -91,48 +80,42 @@ impl Proved {
     }
 
     /// Every step, and one more after it said done; as many as would be held at the most.
-    #[cfg(feature = "proved-list")]
     fn list(&self) -> Asked {
         let (buffer, n) = (self.buffer.bytes(), self.numbers);
-        let mut place = super::list::begin(buffer, n)?;
+        let mut place = reading::list_begin(buffer, n)?;
         let (mut fingerprints, mut places) = (Vec::new(), vec![place]);
         for _ in 0..=n.len {
-            let (found, next) = super::list::step(buffer, n, place)?;
+            let (found, next) = reading::list_step(buffer, n, place)?;
             place = next;
             let Some(fingerprint) = found else { break };
             fingerprints.push(fingerprint);
             places.push(place);
         }
-        if super::list::step(buffer, n, place)? != (None, place) {
+        if reading::list_step(buffer, n, place)? != (None, place) {
             return Ok(Answer::Broken("done doesn't stay done"));
         }
         Ok(Answer::Listed { fingerprints, places })
     }
 
-    #[cfg(feature = "proved-growth")]
     fn grow(&mut self, after: Numbers) -> Asked {
         let (buffer, n) = (self.buffer.clone(), self.numbers);
-        self.lend_destination(after, |dest| super::growth::grow(buffer.bytes(), n, dest))
+        self.lend_destination(after, |dest| writing::grow(buffer.bytes(), n, dest))
     }
 
-    #[cfg(feature = "proved-growth")]
     fn merge(&mut self, other: &Filter, keep: bool, after: Numbers) -> Asked {
         let (buffer, n) = (self.buffer.clone(), self.numbers);
         let image = other.image();
         let other = (&image[..], other.numbers());
-        self.lend_destination(after, |dest| {
-            super::growth::merge((buffer.bytes(), n), other, keep, dest)
-        })
+        self.lend_destination(after, |dest| writing::merge((buffer.bytes(), n), other, keep, dest))
     }
 
     /// Lends a destination of the right length, which a refusal must leave alone.
-    #[cfg(feature = "proved-growth")]
     fn lend_destination(
         &mut self,
         after: Numbers,
         write: impl Fn(&mut [u8]) -> Result<Numbers, u64>,
     ) -> Asked {
-        let shape = crate::model::Shape { qbits: after.qbits, rbits: after.rbits };
+        let shape = Shape { qbits: after.qbits, rbits: after.rbits };
         let mut dest = Guarded::garbage(shape.buffer_len());
         let result = write(dest.bytes_mut());
         if !dest.intact() {
@@ -146,13 +129,11 @@ impl Proved {
         Ok(Answer::Written)
     }
 
-    #[cfg(feature = "proved-growth")]
     fn insert_spare(&mut self, hash: u64, max_count: u64) -> Asked {
         let spare_len = grown_len(self.numbers);
         let (old, mut spare) = (self.buffer.clone(), Guarded::garbage(spare_len));
         let lent = (self.buffer.bytes_mut(), self.numbers);
-        let result =
-            super::growth::insert_spare(self.quick, lent, hash, max_count, spare.bytes_mut());
+        let result = writing::insert_spare(self.quick, lent, hash, max_count, spare.bytes_mut());
         let in_spare = result.is_ok_and(|(_, in_spare, _)| in_spare);
         if !spare.intact() {
             return Ok(Answer::OUTSIDE);

@@ -1,6 +1,7 @@
 //! A listing by the original's own iterator.
 
 use crate::model::Place;
+use crate::original::listed;
 
 /// A listing: what it gives, every place, and how far it is.
 #[derive(Default)]
@@ -11,16 +12,10 @@ pub struct Listing {
 }
 
 impl Listing {
+    /// The whole listing of a filter, at its beginning.
     pub fn of(filter: &qfilter::Filter) -> Listing {
-        let mut listing = Listing::default();
-        let mut iter = filter.fingerprints();
-        loop {
-            let (quotient, slot, remaining) = iter.place();
-            let Some(fingerprint) = iter.next() else { break };
-            listing.fingerprints.push(fingerprint);
-            listing.places.push(Place { quotient, slot, remaining });
-        }
-        listing
+        let (fingerprints, places) = listed(filter);
+        Listing { fingerprints, places, at: 0 }
     }
 
     /// The next fingerprint, in words.
@@ -32,7 +27,7 @@ impl Listing {
         format!("fingerprint {fingerprint:016x}")
     }
 
-    /// Where the original's iterator stands; at the end document 01 has all 0.
+    /// Where the original's iterator stands; at the end the rules have all 0.
     pub fn place(&self) -> String {
         let Place { quotient, slot, remaining } =
             self.places.get(self.at).copied().unwrap_or_default();

@@ -1,11 +1,12 @@
 //! The list of calls that `crates/vectors` replays, and what the original answers to each: the two
 //! files of that crate, made here and compared with those that stand there.
 
-mod bench;
+mod lent;
 mod listing;
 mod plans;
 mod rebuilds;
 mod refusals;
+mod replay;
 mod script;
 
 use std::path::PathBuf;
@@ -14,11 +15,12 @@ const NAME: &str = "vectors";
 
 /// The files `stdin` and `stdout` of the crate.
 fn files() -> [(PathBuf, String); 2] {
-    let bench = script::replayed();
+    let replay = script::replayed();
     let folder = PathBuf::from(concat!(env!("CARGO_MANIFEST_DIR"), "/../crates/vectors"));
-    [(folder.join("stdin"), bench.script), (folder.join("stdout"), bench.answers)]
+    [(folder.join("stdin"), replay.script), (folder.join("stdout"), replay.answers)]
 }
 
+/// Writes the crate's files.
 pub fn write() {
     for (path, text) in files() {
         std::fs::write(path, &text).expect("the crate's folder can be written");

@@ -1,15 +1,26 @@
 //! Every refusal of numbers 1 to 6, and 12 of a fresh filter.
 
-use super::bench::{Bench, Line, widths};
+use super::replay::{Line, Replay, widths};
 use super::script::{MAX, each, fresh};
 use crate::model::Shape;
 
 /// Every checked call, and a step, on a record or a buffer that is wrong; nothing is altered.
-pub fn refusals(bench: &mut Bench) {
+pub fn refusals(replay: &mut Replay) {
     let shape = Shape { qbits: 6, rbits: 8 };
-    fresh(bench, shape, 0);
-    each(bench, [Line('a', 0x101, 0x80, 20), Line('l', 0, 0, 0), Line('s', 0, 0, 0)]);
+    fresh(replay, shape, 0);
+    each(replay, [Line('a', 0x101, 0x80, 20), Line('l', 0, 0, 0), Line('s', 0, 0, 0)]);
     let right = widths(6, 8, 0);
+    wrong_records(replay, right);
+    damaged_bytes(replay, right);
+    // A fresh filter asks 1, 4, 12.
+    let asked = [(89, 5, 8, 99), (88, 6, 8, 5), (88, 6, 8, 0), (90, 6, 8, 0), (0, 6, 8, 13)];
+    each(replay, asked.map(|(size, q, r, max)| Line('f', size, widths(q, r, max), 0)));
+    replay.call(Line('r', 20, right, 89));
+    replay.call(Line('k', 0, 0, 0));
+}
+
+/// Numbers 1 to 5.
+fn wrong_records(replay: &mut Replay, right: u64) {
     let wrong = [
         (20, widths(5, 8, 0), 89),
         (20, widths(60, 1, 0), 89),
@@ -25,36 +36,34 @@ pub fn refusals(bench: &mut Bench) {
         (64, widths(6, 8, 13), 89),
     ];
     for (len, widths, size) in wrong {
-        bench.call(Line('r', len, widths, size));
-        refused(bench);
-        each(bench, [Line('C', 0x101, 0, 0), Line('I', 0x101, 1, 0), Line('s', 0, 0, 0)]);
+        replay.call(Line('r', len, widths, size));
+        refused(replay);
+        each(replay, [Line('C', 0x101, 0, 0), Line('I', 0x101, 1, 0), Line('s', 0, 0, 0)]);
     }
-    // Number 6: a len that is off by one, then a damaged byte of each kind, put right again.
-    each(bench, [Line('r', 19, right, 89), Line('k', 0, 0, 0), Line('r', 21, right, 89)]);
-    refused(bench);
-    bench.call(Line('r', 20, right, 89));
-    let bytes = bench.filter().image();
+}
+
+/// Number 6: a len that is off by one, then a damaged byte of each kind, put right again.
+fn damaged_bytes(replay: &mut Replay, right: u64) {
+    each(replay, [Line('r', 19, right, 89), Line('k', 0, 0, 0), Line('r', 21, right, 89)]);
+    refused(replay);
+    replay.call(Line('r', 20, right, 89));
+    let bytes = replay.filter().image();
     for at in [0, 1, 8, 9, 16, 17, 40, 80, 81, 88] {
         let byte = u64::from(bytes[at]);
-        each(bench, [Line('b', at as u64, byte ^ 0x10, 0), Line('k', 0, 0, 0)]);
-        each(bench, [Line('i', 0x101, 1, 0), Line('b', at as u64, byte, 0)]);
+        each(replay, [Line('b', at as u64, byte ^ 0x10, 0), Line('k', 0, 0, 0)]);
+        each(replay, [Line('i', 0x101, 1, 0), Line('b', at as u64, byte, 0)]);
     }
     // Two remainders of one run change places.
-    each(bench, [Line('b', 18, 0x81, 0), Line('b', 19, 0x01, 0), Line('k', 0, 0, 0)]);
-    each(bench, [Line('b', 18, 0x01, 0), Line('b', 19, 0x81, 0), Line('k', 0, 0, 0)]);
-    bench.call(Line('b', 3, 0xff, 0));
-    refused(bench);
-    each(bench, [Line('b', 3, bytes[3].into(), 0), Line('k', 0, 0, 0)]);
-    // A fresh filter asks 1, 4, 12.
-    let asked = [(89, 5, 8, 99), (88, 6, 8, 5), (88, 6, 8, 0), (90, 6, 8, 0), (0, 6, 8, 13)];
-    each(bench, asked.map(|(size, q, r, max)| Line('f', size, widths(q, r, max), 0)));
-    bench.call(Line('r', 20, right, 89));
-    bench.call(Line('k', 0, 0, 0));
+    each(replay, [Line('b', 18, 0x81, 0), Line('b', 19, 0x01, 0), Line('k', 0, 0, 0)]);
+    each(replay, [Line('b', 18, 0x01, 0), Line('b', 19, 0x81, 0), Line('k', 0, 0, 0)]);
+    replay.call(Line('b', 3, 0xff, 0));
+    refused(replay);
+    each(replay, [Line('b', 3, bytes[3].into(), 0), Line('k', 0, 0, 0)]);
 }
 
 /// Every checked call on one filter.
-fn refused(bench: &mut Bench) {
-    each(bench, ['k', 'c', 'n', 'm', 'l'].map(|kind| Line(kind, 0x101, 0, 0)));
-    each(bench, [Line('i', 0x101, MAX, 0), Line('g', 170, 0, 0), Line('j', 89, 1, 0)]);
-    bench.call(Line('p', 0x101, MAX, 170));
+fn refused(replay: &mut Replay) {
+    each(replay, ['k', 'c', 'n', 'm', 'l'].map(|kind| Line(kind, 0x101, 0, 0)));
+    each(replay, [Line('i', 0x101, MAX, 0), Line('g', 170, 0, 0), Line('j', 89, 1, 0)]);
+    replay.call(Line('p', 0x101, MAX, 170));
 }

@@ -1,7 +1,7 @@
 //! Which calls the list has: every call on sound filters of several shapes, at the edges that
-//! document 01 names, and every refusal.
+//! docs/RULES.md names, and every refusal.
 
-use super::bench::{Bench, Line, widths};
+use super::replay::{Line, Replay, widths};
 use super::{rebuilds, refusals};
 use crate::call::Call;
 use crate::generate::Hashes;
@@ -9,139 +9,144 @@ use crate::model::Shape;
 use crate::model::planning::MAX_CAPACITY;
 use crate::seed::{Rng, SEED};
 
+/// The largest number of a call.
 pub const MAX: u64 = u64::MAX;
 
 /// A step that spreads hashes over all quotients.
 pub const SPREADING: u64 = 0x9e37_79b9_7f4a_7c15;
 
 /// The whole list, replayed.
-pub fn replayed() -> Bench {
-    let mut bench = Bench::new();
+pub fn replayed() -> Replay {
+    let mut replay = Replay::new();
     let mut rng = Rng::new(SEED, "vectors");
-    planning(&mut bench);
-    examples(&mut bench);
-    saturated(&mut bench);
+    planning(&mut replay);
+    examples(&mut replay);
+    saturated(&mut replay);
     for (qbits, rbits) in [(6, 1), (6, 8), (6, 58), (7, 8), (8, 3), (9, 8)] {
         let shape = Shape { qbits, rbits };
-        walk(&mut bench, &mut rng, shape, SPREADING);
-        walk(&mut bench, &mut rng, shape, 1);
+        walk(&mut replay, &mut rng, shape, SPREADING);
+        walk(&mut replay, &mut rng, shape, 1);
     }
-    refusals::refusals(&mut bench);
-    rebuilds::growths(&mut bench);
-    rebuilds::spares(&mut bench);
-    rebuilds::merges(&mut bench);
-    bench
+    refusals::refusals(&mut replay);
+    rebuilds::growths(&mut replay);
+    rebuilds::spares(&mut replay);
+    rebuilds::merges(&mut replay);
+    replay
 }
 
-pub fn each(bench: &mut Bench, lines: impl IntoIterator<Item = Line>) {
-    lines.into_iter().for_each(|line| bench.call(line));
+/// Makes all these calls.
+pub fn each(replay: &mut Replay, lines: impl IntoIterator<Item = Line>) {
+    lines.into_iter().for_each(|line| replay.call(line));
 }
 
 /// An empty filter.
-pub fn fresh(bench: &mut Bench, shape: Shape, max_qbits: u8) {
-    bench.call(Line('f', shape.buffer_len(), widths(shape.qbits, shape.rbits, max_qbits), 0));
+pub fn fresh(replay: &mut Replay, shape: Shape, max_qbits: u8) {
+    replay.call(Line('f', shape.buffer_len(), widths(shape.qbits, shape.rbits, max_qbits), 0));
 }
 
 /// Begun, and two steps at a time until it is done.
-fn listed(bench: &mut Bench) {
-    bench.call(Line('l', 0, 0, 0));
-    for _ in 0..bench.filter().len() / 2 + 1 {
-        bench.call(Line('S', 0, 0, 0));
+fn listed(replay: &mut Replay) {
+    replay.call(Line('l', 0, 0, 0));
+    for _ in 0..replay.filter().len() / 2 + 1 {
+        replay.call(Line('S', 0, 0, 0));
     }
 }
 
-fn planning(bench: &mut Bench) {
+fn planning(replay: &mut Replay) {
     let selects = [(0, 0), (11, 2), (11, 3), (1 << 63, 0), (1 << 63, 1), (MAX, 63), (MAX, 64)];
-    each(bench, selects.map(|(word, n)| Line('e', word, n, 0)));
-    each(bench, [Line('e', MAX, 128, 0), Line('e', 0x8421_0842_1084_2108, 7, 0)]);
+    each(replay, selects.map(|(word, n)| Line('e', word, n, 0)));
+    each(replay, [Line('e', MAX, 128, 0), Line('e', 0x8421_0842_1084_2108, 7, 0)]);
     let capacities = [0, 1, 61, 62, 122, 123, 1000, 1 << 40, MAX_CAPACITY, MAX_CAPACITY + 1, MAX];
-    each(bench, capacities.map(|capacity| Line('q', capacity, 0, 0)));
+    each(replay, capacities.map(|capacity| Line('q', capacity, 0, 0)));
     let rates = [0.01, 0.5, 0.3, 0.25, 1.0, 2.0, 0.0, -1.0, f64::INFINITY, f64::NAN, 1e-6, 1e-17];
-    each(bench, rates.map(|rate: f64| Line('t', 1000, rate.to_bits(), 0)));
+    each(replay, rates.map(|rate: f64| Line('t', 1000, rate.to_bits(), 0)));
     let wide = 0.5f64.powi(57).to_bits();
     let (half, tenth) = (0.5f64.to_bits(), 0.1f64.to_bits());
-    each(bench, [(0, wide), (61, wide), (62, wide), (123, wide), (MAX_CAPACITY, half)].map(spec));
-    each(bench, [(MAX_CAPACITY, tenth), (MAX_CAPACITY + 1, half), (MAX, wide)].map(spec));
+    each(replay, [(0, wide), (61, wide), (62, wide), (123, wide), (MAX_CAPACITY, half)].map(spec));
+    each(replay, [(MAX_CAPACITY, tenth), (MAX_CAPACITY + 1, half), (MAX, wide)].map(spec));
     let plans = [(0, 0, half), (10, 200, tenth), (61, 62, half), (100, 100, wide), (62, 500, wide)];
-    each(bench, plans.map(|(initial, max, rate)| Line('w', initial, max, rate)));
+    each(replay, plans.map(|(initial, max, rate)| Line('w', initial, max, rate)));
     let plans = [(1, 0, half), (MAX, 5, half), (5, MAX, half), (5, MAX_CAPACITY, half)];
-    each(bench, plans.map(|(initial, max, rate)| Line('w', initial, max, rate)));
-    each(bench, [Line('w', 5, MAX_CAPACITY, wide), Line('w', 5, 700, f64::NAN.to_bits())]);
+    each(replay, plans.map(|(initial, max, rate)| Line('w', initial, max, rate)));
+    each(replay, [Line('w', 5, MAX_CAPACITY, wide), Line('w', 5, 700, f64::NAN.to_bits())]);
 }
 
 fn spec((capacity, rate): (u64, u64)) -> Line {
     Line('t', capacity, rate, 0)
 }
 
-/// Document 01's examples with 6/8.
-fn examples(bench: &mut Bench) {
+/// docs/RULES.md, "Examples at the edges": those with 6/8.
+fn examples(replay: &mut Replay) {
     let shape = Shape { qbits: 6, rbits: 8 };
-    fresh(bench, shape, 0);
-    listed(bench);
-    each(bench, [0x203, 0x105, 0x103].map(|hash| Line('i', hash, MAX, 0)));
-    bench.call(Line('k', 0, 0, 0));
-    each(bench, [0x103, 0x104, 0x105, 0x106, 0x203, 0x7f0203, 0].map(|hash| Line('c', hash, 0, 0)));
-    listed(bench);
+    fresh(replay, shape, 0);
+    listed(replay);
+    each(replay, [0x203, 0x105, 0x103].map(|hash| Line('i', hash, MAX, 0)));
+    replay.call(Line('k', 0, 0, 0));
+    each(
+        replay,
+        [0x103, 0x104, 0x105, 0x106, 0x203, 0x7f0203, 0].map(|hash| Line('c', hash, 0, 0)),
+    );
+    listed(replay);
     // max_count 0 adds an absent fingerprint and answers 1 if present.
     let counts = [(0x104, 0), (0x104, 0), (0x104, 1), (0x104, 2), (0x104, 2), (0x104, MAX)];
-    each(bench, counts.map(|(hash, max_count)| Line('i', hash, max_count, 0)));
-    each(bench, [0x104, 0x105, 0x107].map(|hash| Line('n', hash, 0, 0)));
-    each(bench, [0x104, 0x107, 0x103, 0x203, 0x105].map(|hash| Line('m', hash, 0, 0)));
-    listed(bench);
+    each(replay, counts.map(|(hash, max_count)| Line('i', hash, max_count, 0)));
+    each(replay, [0x104, 0x105, 0x107].map(|hash| Line('n', hash, 0, 0)));
+    each(replay, [0x104, 0x107, 0x103, 0x203, 0x105].map(|hash| Line('m', hash, 0, 0)));
+    listed(replay);
     // Three copies in the last quotient go round.
-    fresh(bench, shape, 0);
-    each(bench, [Line('i', 0x3f07, MAX, 0); 3]);
-    each(bench, [Line('c', 0x3f07, 0, 0), Line('n', 0x3f07, 0, 0)]);
-    listed(bench);
-    each(bench, [Line('i', 0x0001, 1, 0), Line('a', 0x3e09, 0, 4), Line('k', 0, 0, 0)]);
-    listed(bench);
-    each(bench, [Line('m', 0x3f07, 0, 0); 4]);
+    fresh(replay, shape, 0);
+    each(replay, [Line('i', 0x3f07, MAX, 0); 3]);
+    each(replay, [Line('c', 0x3f07, 0, 0), Line('n', 0x3f07, 0, 0)]);
+    listed(replay);
+    each(replay, [Line('i', 0x0001, 1, 0), Line('a', 0x3e09, 0, 4), Line('k', 0, 0, 0)]);
+    listed(replay);
+    each(replay, [Line('m', 0x3f07, 0, 0); 4]);
     // Past capacity, by its bytes alone: 61 held in as many quotients, and two more.
-    fresh(bench, shape, 0);
-    each(bench, [Line('a', 0, 0x100, 61), Line('i', 0x3d00, 1, 0), Line('i', 0x3c00, 1, 0)]);
-    each(bench, [Line('b', 8, 0x7f, 0), Line('b', 16, 0x7f, 0), Line('k', 0, 0, 0)]);
-    each(bench, [Line('r', 63, widths(6, 8, 0), 89), Line('k', 0, 0, 0), Line('i', 0x3f00, 1, 0)]);
-    each(bench, [Line('i', 0x3e00, 1, 0), Line('n', 0x3e00, 0, 0), Line('o', 0, 0, 0)]);
+    fresh(replay, shape, 0);
+    each(replay, [Line('a', 0, 0x100, 61), Line('i', 0x3d00, 1, 0), Line('i', 0x3c00, 1, 0)]);
+    each(replay, [Line('b', 8, 0x7f, 0), Line('b', 16, 0x7f, 0), Line('k', 0, 0, 0)]);
+    each(replay, [Line('r', 63, widths(6, 8, 0), 89), Line('k', 0, 0, 0), Line('i', 0x3f00, 1, 0)]);
+    each(replay, [Line('i', 0x3e00, 1, 0), Line('n', 0x3e00, 0, 0), Line('o', 0, 0, 0)]);
     // A wider one adds nothing to it.
-    fresh(bench, Shape { qbits: 6, rbits: 9 }, 0);
-    each(bench, [Line('a', 0, 0x100, 20), Line('o', 0, 0, 0), Line('j', 89, 0, 0)]);
-    each(bench, [Line('j', 89, 1, 0), Line('m', 0x3e00, 0, 0), Line('m', 0, 0, 0)]);
+    fresh(replay, Shape { qbits: 6, rbits: 9 }, 0);
+    each(replay, [Line('a', 0, 0x100, 20), Line('o', 0, 0, 0), Line('j', 89, 0, 0)]);
+    each(replay, [Line('j', 89, 1, 0), Line('m', 0x3e00, 0, 0), Line('m', 0, 0, 0)]);
 }
 
 /// Offsets at 255 and just below: 9/8 with 400 copies in quotient 0, taken down past the place
 /// where the third block's carry goes from 255 to 254, and up again.
-fn saturated(bench: &mut Bench) {
-    fresh(bench, Shape { qbits: 9, rbits: 8 }, 0);
-    each(bench, [Line('a', 0x07, 0, 400), Line('k', 0, 0, 0), Line('n', 0x07, 0, 0)]);
-    each(bench, [Line('c', 0x07, 0, 0), Line('c', 0x08, 0, 0), Line('i', 0x06, MAX, 0)]);
+fn saturated(replay: &mut Replay) {
+    fresh(replay, Shape { qbits: 9, rbits: 8 }, 0);
+    each(replay, [Line('a', 0x07, 0, 400), Line('k', 0, 0, 0), Line('n', 0x07, 0, 0)]);
+    each(replay, [Line('c', 0x07, 0, 0), Line('c', 0x08, 0, 0), Line('i', 0x06, MAX, 0)]);
     // Runs in blocks whose stored offset isn't the carry.
-    each(bench, [Line('i', 0x4105, MAX, 0), Line('i', 0x8503, MAX, 0), Line('c', 0x4105, 0, 0)]);
-    each(bench, [Line('n', 0x8503, 0, 0), Line('m', 0x4105, 0, 0), Line('M', 0x8503, 0, 0)]);
-    each(bench, [Line('m', 0x06, 0, 0), Line('m', 0x07, 0, 0), Line('x', 0x07, 0, 14)]);
-    each(bench, [Line('m', 0x07, 0, 0); 5]);
-    each(bench, [Line('i', 0x07, MAX, 0); 4]);
-    each(bench, [Line('b', 243, 255, 0), Line('k', 0, 0, 0), Line('b', 243, 192, 0)]);
-    each(bench, [Line('a', 0x1_4000, 0x100, 40), Line('k', 0, 0, 0), Line('x', 0x07, 0, 300)]);
-    each(bench, [Line('k', 0, 0, 0), Line('n', 0x07, 0, 0)]);
+    each(replay, [Line('i', 0x4105, MAX, 0), Line('i', 0x8503, MAX, 0), Line('c', 0x4105, 0, 0)]);
+    each(replay, [Line('n', 0x8503, 0, 0), Line('m', 0x4105, 0, 0), Line('M', 0x8503, 0, 0)]);
+    each(replay, [Line('m', 0x06, 0, 0), Line('m', 0x07, 0, 0), Line('x', 0x07, 0, 14)]);
+    each(replay, [Line('m', 0x07, 0, 0); 5]);
+    each(replay, [Line('i', 0x07, MAX, 0); 4]);
+    each(replay, [Line('b', 243, 255, 0), Line('k', 0, 0, 0), Line('b', 243, 192, 0)]);
+    each(replay, [Line('a', 0x1_4000, 0x100, 40), Line('k', 0, 0, 0), Line('x', 0x07, 0, 300)]);
+    each(replay, [Line('k', 0, 0, 0), Line('n', 0x07, 0, 0)]);
 }
 
 /// Near capacity, where clusters are long: a seeded walk up to it and down again.
-fn walk(bench: &mut Bench, rng: &mut Rng, shape: Shape, step: u64) {
-    fresh(bench, shape, 0);
-    bench.call(Line('a', rng.next(), step, shape.capacity() - 5));
+fn walk(replay: &mut Replay, rng: &mut Rng, shape: Shape, step: u64) {
+    fresh(replay, shape, 0);
+    replay.call(Line('a', rng.next(), step, shape.capacity() - 5));
     let hashes = Hashes::spread(rng, shape);
-    let calls = hashes.up_and_down(rng, &bench.filter(), 18);
+    let calls = hashes.up_and_down(rng, &replay.filter(), 18);
     for call in calls {
-        bench.call(line(call, rng.one_in(2)));
+        replay.call(line(call, rng.one_in(2)));
     }
-    bench.call(Line('k', 0, 0, 0));
-    let first = bench.filter().held[0];
+    replay.call(Line('k', 0, 0, 0));
+    let first = replay.filter().held[0];
     each(
-        bench,
+        replay,
         [Line('n', first, 0, 0), Line('l', 0, 0, 0), Line('S', 0, 0, 0), Line('s', 0, 0, 0)],
     );
-    bench.call(Line('x', first, step, shape.slots() / 2));
-    bench.call(Line('k', 0, 0, 0));
+    replay.call(Line('x', first, step, shape.slots() / 2));
+    replay.call(Line('k', 0, 0, 0));
 }
 
 fn line(call: Call, quick: bool) -> Line {

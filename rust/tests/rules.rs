@@ -1,4 +1,4 @@
-//! Document 01's examples and refusals, through this crate.
+//! What docs/RULES.md says under "Examples at the edges" and "Refusals", through this crate.
 
 use strumblay::{Error, Filter, Lookup, Numbers, Place, Widths};
 

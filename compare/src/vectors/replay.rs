@@ -1,33 +1,26 @@
 //! What `crates/vectors` keeps between its calls, with the original in the place of the proved
 //! code: each call's line of the list, and the line that answers it.
 
+use super::lent::Lent;
 use super::listing::Listing;
 use super::plans;
-use crate::model::{self, Filter, Numbers};
+use crate::model::{self, Filter, Numbers, Widths};
 use crate::original::{number_of, numbers_of};
 use std::fmt::Write;
-
-/// The bytes of each buffer.
-pub const ROOM: usize = 4096;
 
 /// A letter and three numbers.
 #[derive(Clone, Copy)]
 pub struct Line(pub char, pub u64, pub u64, pub u64);
 
-/// A record, and how much of its buffer is lent.
-struct Lent {
-    numbers: Numbers,
-    size: u64,
-    room: Vec<u8>,
-}
-
-pub struct Bench {
+/// Three buffers, a listing, and what was called and answered so far.
+pub struct Replay {
     own: Lent,
     other: Lent,
     dest: Lent,
     listing: Listing,
-    /// The list and its answers.
+    /// The list.
     pub script: String,
+    /// Its answers.
     pub answers: String,
 }
 
@@ -36,53 +29,21 @@ pub fn widths(qbits: u8, rbits: u8, max_qbits: u8) -> u64 {
     u64::from_be_bytes([0, 0, 0, 0, 0, qbits, rbits, max_qbits])
 }
 
+/// A record of these widths.
 fn numbers(len: u64, widths: u64) -> Numbers {
     let [.., qbits, rbits, max_qbits] = widths.to_be_bytes();
     Numbers { len, qbits, rbits, max_qbits }
 }
 
+/// A record in words.
 fn shown(n: Numbers) -> String {
     format!("{} {} {} {}", n.len, n.qbits, n.rbits, n.max_qbits)
 }
 
-impl Lent {
-    fn new() -> Lent {
-        Lent { numbers: Numbers::default(), size: 0, room: vec![0; ROOM] }
-    }
-
-    fn bytes(&self) -> &[u8] {
-        &self.room[..self.size as usize]
-    }
-
-    /// The filter, or the lowest of 1 to 6.
-    fn check(&self) -> Result<Filter, u64> {
-        model::check(self.numbers, self.bytes())
-    }
-
-    fn original(&self) -> qfilter::Filter {
-        let n = self.numbers;
-        qfilter::Filter::from_parts(self.bytes(), n.len, n.qbits, n.rbits, n.max_qbits)
-    }
-
-    /// Becomes the original's filter, or gives 12.
-    fn take(&mut self, filter: &qfilter::Filter) -> Result<(), u64> {
-        if filter.buffer().len() as u64 != self.size {
-            return Err(12);
-        }
-        self.numbers = numbers_of(filter);
-        self.room[..self.size as usize].copy_from_slice(filter.buffer());
-        Ok(())
-    }
-
-    /// The bytes as a number in base 257, modulo a prime.
-    fn sum(&self) -> u64 {
-        self.bytes().iter().fold(1, |sum, &byte| (sum * 257 + u64::from(byte)) % 4294967291)
-    }
-}
-
-impl Bench {
-    pub fn new() -> Bench {
-        Bench {
+impl Replay {
+    /// Nothing called yet.
+    pub fn new() -> Replay {
+        Replay {
             own: Lent::new(),
             other: Lent::new(),
             dest: Lent::new(),
@@ -97,6 +58,7 @@ impl Bench {
         self.own.check().expect("a sound filter")
     }
 
+    /// Makes a call, and writes its line and the answer.
     pub fn call(&mut self, line: Line) {
         let Line(kind, x, y, z) = line;
         let answer = self.answer(line).unwrap_or_else(|number| format!("refused {number}"));
@@ -199,8 +161,8 @@ impl Bench {
 
     fn fresh(&mut self, size: u64, widths: u64) -> Result<String, u64> {
         self.own.size = size;
-        let n = numbers(0, widths);
-        self.own.numbers = model::fresh(n.qbits, n.rbits, n.max_qbits, size)?;
+        let Numbers { qbits, rbits, max_qbits, .. } = numbers(0, widths);
+        self.own.numbers = model::fresh(Widths { qbits, rbits, max_qbits }, size)?;
         self.own.room[..size as usize].fill(0);
         Ok("fresh".into())
     }

@@ -1,0 +1,43 @@
+//! Calls that write one buffer.
+
+use super::Changed;
+use crate::{Numbers, Widths};
+
+unsafe extern "C" {
+    fn strumblay_fresh(q: u8, r: u8, max: u8, buf: *mut u8, len: usize) -> Changed;
+    fn strumblay_insert(b: *mut u8, len: usize, n: Numbers, hash: u64, max: u64) -> Changed;
+    fn strumblay_insert_quick(b: *mut u8, len: usize, n: Numbers, hash: u64, max: u64) -> Changed;
+    fn strumblay_remove(buf: *mut u8, len: usize, n: Numbers, hash: u64) -> Changed;
+    fn strumblay_remove_quick(buf: *mut u8, len: usize, n: Numbers, hash: u64) -> Changed;
+}
+
+/// Makes the buffer an empty filter.
+#[inline]
+pub fn fresh(widths: Widths, buf: &mut [u8]) -> Changed {
+    let Widths { qbits, rbits, max_qbits } = widths;
+    unsafe { strumblay_fresh(qbits, rbits, max_qbits, buf.as_mut_ptr(), buf.len()) }
+}
+
+/// One copy more, checked; answers the copies held before, max(1, max_count) at most.
+#[inline]
+pub fn insert(buf: &mut [u8], n: Numbers, hash: u64, max_count: u64) -> Changed {
+    unsafe { strumblay_insert(buf.as_mut_ptr(), buf.len(), n, hash, max_count) }
+}
+
+/// One copy more, quick; answers the copies held before, max(1, max_count) at most.
+#[inline]
+pub fn insert_quick(buf: &mut [u8], n: Numbers, hash: u64, max_count: u64) -> Changed {
+    unsafe { strumblay_insert_quick(buf.as_mut_ptr(), buf.len(), n, hash, max_count) }
+}
+
+/// One copy fewer, checked; answers 1 if there was one, else 0.
+#[inline]
+pub fn remove(buf: &mut [u8], n: Numbers, hash: u64) -> Changed {
+    unsafe { strumblay_remove(buf.as_mut_ptr(), buf.len(), n, hash) }
+}
+
+/// One copy fewer, quick; answers 1 if there was one, else 0.
+#[inline]
+pub fn remove_quick(buf: &mut [u8], n: Numbers, hash: u64) -> Changed {
+    unsafe { strumblay_remove_quick(buf.as_mut_ptr(), buf.len(), n, hash) }
+}
