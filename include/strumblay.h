@@ -123,7 +123,7 @@ strumblay_outcome strumblay_count_quick(const uint8_t *buf, size_t buf_len, stru
 
 /* Listing: ascending fingerprints, each as often as held. */
 
-/* The next fingerprint's quotient, its slot, and how many remain; all 0 when none do. */
+/* How far a listing is: quotient and slot of the fingerprint to come, and how many are to come; three zeros at the end. */
 typedef struct {
     uint64_t quotient;
     uint64_t slot;
