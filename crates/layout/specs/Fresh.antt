@@ -7,14 +7,14 @@ use Rattle.theory.specs.Image.{image}
 use Rattle.theory.specs.Planning.{freshDue}
 use Rattle.theory.specs.refusals.PlanRefused.{none-fresh}
 use Rattle.theory.specs.images.EmptyImage.{sound-empty, holds-empty}
-use Rattle.layout.specs.Records.{NumbersOf, SoundOf, HoldsOf}
+use Rattle.layout.specs.Records.{emptyRecord, SoundOf, HoldsOf}
 use Rattle.layout.specs.declared.numbers.Numbers.{Numbers}
 use Rattle.layout.specs.declared.fresh.Made.{Made}
 use Rattle.layout.specs.declared.fresh.Made.the-variants.{Fresh, Refused}
 
 -- the numbers asked for with len 0, and the image of the empty list, if none of 1, 4 and 12 is due; else the first that is, and the buffer as it was
 abbrev pub MadeAs : List ℕ → ℕ → ℕ → ℕ → Made → List ℕ → Type 0
-MadeAs s q r mx (Fresh n) t = (freshDue q r mx (length s) ≡ 0) × NumbersOf 0 q r mx n × (t ≡ image q r [])
+MadeAs s q r mx (Fresh n) t = (freshDue q r mx (length s) ≡ 0) × (n ≡ emptyRecord q r mx) × (t ≡ image q r [])
 MadeAs s q r mx (Refused k) t = (freshDue q r mx (length s) ≡ k) × (0 < k) × (t ≡ s)
 
 -- a fresh filter is sound and holds nothing
@@ -22,5 +22,4 @@ pub made-sound : (s : List ℕ) (q r mx : ℕ) (n : Numbers) (t : List ℕ) → 
     → SoundOf n t × HoldsOf n t []
 made-sound s q r mx n t h =
     let e = none-fresh q r mx (length s) (h .0) in
-    let i = h .1 in
-    rw (i .len-is, i .qbits-is, i .rbits-is, i .max-is, h .2) (sound-empty q r mx (e .0) (e .1), holds-empty q r)
+    rw (h .1, h .2) (sound-empty q r mx (e .0) (e .1), holds-empty q r)

@@ -23,7 +23,6 @@ use Rattle.layout.specs.declared.fresh.Made.{Made}
 use Rattle.layout.specs.declared.fresh.Made.the-variants as made
 use Rattle.layout.specs.declared.check.Verdict.{Verdict}
 use Rattle.layout.specs.declared.check.Verdict.the-variants as verdict
-use Rattle.layout.specs.Records.{numbers-unique}
 use Rattle.layout.specs.Shapes.{ShapedAs}
 use Rattle.layout.specs.Plans.{NeededAs, SpecsOf, SpecifiedAs, PlannedAs}
 use Rattle.layout.specs.Fresh.{MadeAs}
@@ -67,7 +66,7 @@ filter-specs-pinned c rate (specified.Refused k) (specified.Specs y) s t = absur
 filter-specs-pinned c rate (specified.Refused k) (specified.Refused j) s t = ap specified.Refused (sym (s .0) ∙ t .0)
 
 pub plan-resizeable-pinned : (initial most : ℕ) (rate : Float) (a b : Planned) → PlannedAs initial most rate a → PlannedAs initial most rate b → a ≡ b
-plan-resizeable-pinned initial most rate (planned.Widths m) (planned.Widths n) s t = ap planned.Widths (numbers-unique _ _ _ _ m n (s .1) (t .1))
+plan-resizeable-pinned initial most rate (planned.Widths m) (planned.Widths n) s t = ap planned.Widths (s .1 ∙ sym (t .1))
 plan-resizeable-pinned initial most rate (planned.Widths m) (planned.Refused k) s t = absurd (omega arith)
 plan-resizeable-pinned initial most rate (planned.Refused k) (planned.Widths n) s t = absurd (omega arith)
 plan-resizeable-pinned initial most rate (planned.Refused k) (planned.Refused j) s t = ap planned.Refused (sym (s .0) ∙ t .0)
@@ -77,7 +76,7 @@ pub clear-pinned : (s t u : List ℕ) → t ≡ replicate (length s) 0 → u ≡
 clear-pinned s t u x y = x ∙ sym y
 
 pub fresh-pinned : (s : List ℕ) (q r mx : ℕ) (a b : Made) (t u : List ℕ) → MadeAs s q r mx a t → MadeAs s q r mx b u → (a ≡ b) × (t ≡ u)
-fresh-pinned s q r mx (made.Fresh m) (made.Fresh n) t u x y = (ap made.Fresh (numbers-unique _ _ _ _ m n (x .1) (y .1)), x .2 ∙ sym (y .2))
+fresh-pinned s q r mx (made.Fresh m) (made.Fresh n) t u x y = (ap made.Fresh (x .1 ∙ sym (y .1)), x .2 ∙ sym (y .2))
 fresh-pinned s q r mx (made.Fresh m) (made.Refused k) t u x y = absurd (omega arith)
 fresh-pinned s q r mx (made.Refused k) (made.Fresh n) t u x y = absurd (omega arith)
 fresh-pinned s q r mx (made.Refused k) (made.Refused j) t u x y = (ap made.Refused (sym (x .0) ∙ y .0), x .2 ∙ sym (y .2))

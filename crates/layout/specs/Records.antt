@@ -1,7 +1,7 @@
 -- All that is said of a filter's record: its numbers, its shape, the record at other widths or with another len, what is due of it and what it holds,
 -- and the forms of the calls on it.
 use Prim.Native.Nat.{ℕ, _+_, _<_}
-use mathlib.Core.Path.{_≡_, sym, _∙_}
+use mathlib.Core.Path.{_≡_}
 use mathlib.Core.List.{List}
 use lib.ListN.{length}
 use Rattle.theory.specs.Answer.{Answer, gives, refuses}
@@ -13,20 +13,6 @@ use Rattle.layout.specs.declared.numbers.Numbers.{Numbers}
 use Rattle.layout.specs.declared.shape.Shape.{Shape}
 
 -- ---- the record
-pub record NumbersOf (len q r mx : ℕ) (n : Numbers) : Type 0 where
-  pub len-is : n .len ≡ len
-  pub qbits-is : n .qbits ≡ q
-  pub rbits-is : n .rbits ≡ r
-  pub max-is : n .«max_qbits» ≡ mx
-
-pub numbers-unique : (len q r mx : ℕ) (a b : Numbers) → NumbersOf len q r mx a → NumbersOf len q r mx b → a ≡ b
-numbers-unique len q r mx a b s t = λ i. record {
-  len = (s .len-is ∙ sym (t .len-is)) i;
-  qbits = (s .qbits-is ∙ sym (t .qbits-is)) i;
-  rbits = (s .rbits-is ∙ sym (t .rbits-is)) i;
-  «max_qbits» = (s .max-is ∙ sym (t .max-is)) i;
-}
-
 -- the record of an empty filter
 abbrev pub emptyRecord : ℕ → ℕ → ℕ → Numbers
 emptyRecord q r mx = record { len = 0; qbits = q; rbits = r; «max_qbits» = mx }

@@ -42,6 +42,10 @@ pub block-in : (q r b : ℕ) → b < blocks q → block r b + 17 + 8 * r + 8 ≤
 unfolding bytes
 block-in q r b l = omega (arith, block-le r b (blocks q) l)
 
+-- a slot taken round the end
+pub slot-round : (q z s : ℕ) → z ≡ slots q → s % z < slots q
+slot-round q z s e = rw e (mod-lt s (slots-pos q))
+
 -- a slot's block
 pub slot-block : (q s : ℕ) → 6 ≤ q → s < slots q → s / 64 < blocks q
 slot-block q s h l = omega (arith, slots-blocks q h)

@@ -2,12 +2,12 @@
 use Prim.Native.Nat.{_+_, _-_, _%_, _<_}
 use mathlib.Core.Path.{sym, _∙_}
 use native.Mathlib.Omega.{arith}
-use native.Mathlib.Nat.{mod-lt}
 use denote.Ref.{now}
 use Rattle.theory.specs.Shape.{slots as slots-of}
 use Rattle.theory.specs.Image.{Views}
 use Rattle.layout.specs.Whole.{viewsIn}
 use Rattle.filter.specs.Scan.{Counting, counting-on, counted-end, counted-round}
+use Rattle.theory.specs.images.Sizes.{slot-round}
 use borrow.Author.Needs.{needs}
 use Rattle.filter.proofs.lookup.count_from.Statement.{statement}
 use Rattle.filter.proofs.lookup.count_from.Tie as tie
@@ -23,7 +23,7 @@ seen c = viewsIn (c .before .before .before .args .shape) (now (c .before .befor
 
 -- the slot of the turn
 in-round : (c : tie.At-loop Inv-loop μ-loop) → (c .before .before .before .args .at + c .loop .k) % c .before .slots .result < slots-of (c .before .before .before .args .shape .qbits)
-in-round c = omega (arith, c .before .slots .ensures .0, mod-lt (c .before .before .before .args .at + c .loop .k) {m = c .before .slots .result} (omega arith))
+in-round c = slot-round _ _ (c .before .before .before .args .at + c .loop .k) (c .before .slots .ensures .0)
 
 slots-requires : tie.Need-slots-requires Inv-loop μ-loop
 slots-requires c κs = search needs

@@ -2,11 +2,10 @@
 use Prim.Native.Nat.{_+_, _-_, _^_, _≤_, _<_}
 use mathlib.Core.Path.{subst}
 use native.Mathlib.Omega.{arith}
-use native.Mathlib.Nat.{mod-lt}
 use denote.Ref.{now}
 use Rattle.theory.specs.Shape.{slots as slots-of}
 use Rattle.layout.specs.Whole.{viewsIn}
-use Rattle.theory.specs.images.Sizes.{slots-high}
+use Rattle.theory.specs.images.Sizes.{slots-high, slot-round}
 use Rattle.filter.specs.Runs.{PastRun}
 use Rattle.filter.specs.Offsets.{Walked, walked-none, walked-free, walked-on, walked-missed, walked-round}
 use Rattle.bits.specs.declared.select.Found.the-variants.{At}
@@ -53,7 +52,7 @@ rem-is-runend c = search needs
 is-runend-requires : tie.Need-is-runend-requires Inv-loop μ-loop
 is-runend-requires c κs =
     let l = c .before .before .before .before .before in
-    (l .before .before .before .pre .0, omega (arith, l .before .slots .ensures .0, mod-lt (l .loop .s) {m = l .before .slots .result} (omega arith)))
+    (l .before .before .before .pre .0, slot-round _ _ (l .loop .s) (l .before .slots .ensures .0))
 
 add-if1 : tie.Need-add-if1 Inv-loop μ-loop
 add-if1 c =

@@ -2,9 +2,8 @@
 use Prim.Native.Nat.{_%_, _<_}
 use mathlib.Core.Path.{subst}
 use native.Mathlib.Omega.{arith}
-use native.Mathlib.Nat.{mod-lt}
 use Rattle.theory.specs.Shape.{slots as slots-of}
-use Rattle.theory.specs.images.Sizes.{slot-block}
+use Rattle.theory.specs.images.Sizes.{slot-block, slot-round}
 use Rattle.filter.specs.Runs.{Behind}
 use Rattle.filter.specs.Offsets.{past-found, past-missed}
 use Rattle.bits.specs.declared.select.Found.the-variants.{At}
@@ -14,7 +13,7 @@ use Rattle.filter.proofs.runs.past_run.Tie as tie
 
 -- the slot, round the end
 round : (c : tie.After-slots) → c .before .before .args .s % c .slots .result < slots-of (c .before .before .args .shape .qbits)
-round c = omega (arith, c .slots .ensures .0, mod-lt (c .before .before .args .s) {m = c .slots .result} (omega arith))
+round c = slot-round _ _ (c .before .before .args .s) (c .slots .ensures .0)
 
 slots-requires : tie.Need-slots-requires
 slots-requires c κs = search needs

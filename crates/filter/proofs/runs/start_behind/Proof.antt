@@ -1,8 +1,7 @@
 -- `filter::runs::start_behind`: the slot behind the run of the quotient before. Assumes nothing.
 use Prim.Native.Nat.{_+_, _-_}
-use native.Mathlib.Omega.{arith}
-use native.Mathlib.Nat.{mod-lt}
 use Rattle.filter.specs.Offsets.{start-behind}
+use Rattle.theory.specs.images.Sizes.{slot-round}
 use borrow.Author.Needs.{needs}
 use Rattle.filter.proofs.runs.start_behind.Statement.{statement}
 use Rattle.filter.proofs.runs.start_behind.Tie as tie
@@ -20,7 +19,7 @@ rem-run-end : tie.Need-rem-run-end
 rem-run-end c = search needs
 
 run-end-requires : tie.Need-run-end-requires
-run-end-requires c κs = (c .before .before .pre .0, omega (arith, c .slots .ensures .0, mod-lt (c .before .before .args .x + c .slots .result - 1) {m = c .slots .result} (omega arith)))
+run-end-requires c κs = (c .before .before .pre .0, slot-round _ _ (c .before .before .args .x + c .slots .result - 1) (c .slots .ensures .0))
 
 add-result : tie.Need-add-result
 add-result c = search needs

@@ -76,7 +76,7 @@ returns-4 c =
     let m = made (d .before .before .before .before) in
     let size = d .if2 .left ∙ room (d .before) in (
       fresh-none _ _ _ _ (none-widths _ _ (m .0)) (max-none (d .before .before)) size,
-      rw (c .empty .ensures) (record { len-is = refl; qbits-is = refl; rbits-is = refl; max-is = refl }),
+      c .empty .ensures,
       c .before .before .before .clear .ensures ∙ ap (λ n. replicate n 0) size ∙ sym (image-empty _ _),
     )
 

@@ -1,6 +1,6 @@
 -- `layout::planning::plan_resizeable`: numbers 11, 10 and 9, then the widths. Assumes nothing.
 use Prim.Native.Nat.{_+_, _-_, _≤_}
-use mathlib.Core.Path.{_≡_, refl, sym, subst, _∙_}
+use mathlib.Core.Path.{_≡_, sym, subst, _∙_}
 use native.Mathlib.Omega.{arith}
 use Rattle.theory.specs.tools.Cases.{by-eq}
 use Rattle.theory.specs.Planning.{neededQbits, plannedRbits}
@@ -8,6 +8,7 @@ use Rattle.theory.specs.plan.Needed.{needed-high, needed-mono}
 use Rattle.theory.specs.refusals.PlanRefused.{none-capacity, some-capacity, plan-eleven, plan-ten, plan-nine, plan-none, planned-none, planned-some}
 use Rattle.layout.specs.Plans.{NeededAs}
 use Rattle.layout.specs.declared.planning.Needed.the-variants.{Qbits, Refused}
+use Rattle.layout.specs.Records.{emptyRecord}
 use borrow.Author.Needs.{needs}
 use Rattle.layout.proofs.planning.plan_resizeable.Statement.{statement}
 use Rattle.layout.proofs.planning.plan_resizeable.Tie as tie
@@ -79,16 +80,10 @@ returns-4 c =
     let d = c .before in
     let f = found (d .before .before .before .before) in
     let w = d .before .before .before .width-for .ensures .0 in
-    let m = d .max-for .ensures in (
-      plan-none _ _ _ (omega arith) (none-capacity _ (f .0)) (rw (rbits (d .before .before), w) at (sum d)),
-      rw (c .empty .ensures) (record {
-        len-is = refl;
-        qbits-is = w;
-        rbits-is = rbits (d .before .before);
-        max-is = by-eq (neededQbits _) (neededQbits _) (λ e. m .0 (w ∙ sym e ∙ sym (f .1)) ∙ sym (planned-none _ _ e))
-            (λ e. m .1 (λ z. e (sym (f .1) ∙ sym z ∙ w)) ∙ f .1 ∙ sym (planned-some _ _ e));
-      }),
-    )
+    let m = d .max-for .ensures in
+    let r = rbits (d .before .before) in
+    let x = by-eq (neededQbits _) (neededQbits _) (λ e. m .0 (w ∙ sym e ∙ sym (f .1)) ∙ sym (planned-none _ _ e)) (λ e. m .1 (λ z. e (sym (f .1) ∙ sym z ∙ w)) ∙ f .1 ∙ sym (planned-some _ _ e)) in
+    (plan-none _ _ _ (omega arith) (none-capacity _ (f .0)) (rw (r, w) at (sum d)), c .empty .ensures ∙ (λ i. emptyRecord (w i) (r i) (x i)))
 
 pub plan-resizeable-spec : {M : Type 1} → statement M
 plan-resizeable-spec =

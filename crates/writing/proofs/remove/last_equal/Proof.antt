@@ -3,12 +3,12 @@ use Prim.Native.Nat.{_+_, _-_, _%_, _<_}
 use mathlib.Core.Path.{_≡_, sym, _∙_}
 use mathlib.Core.Logic.{_⊎_, inl, inr, _≢_, ⊎-elim}
 use native.Mathlib.Omega.{arith}
-use native.Mathlib.Nat.{mod-lt}
 use denote.Ref.{now}
 use Rattle.theory.specs.Shape.{slots as slots-of}
 use Rattle.theory.specs.Image.{Views}
 use Rattle.layout.specs.Whole.{viewsIn}
 use Rattle.writing.specs.CopyOut.{Looking, looking-none, looking-on, seen-end, seen-round}
+use Rattle.theory.specs.images.Sizes.{slot-round}
 use borrow.Author.Needs.{needs}
 use Rattle.writing.proofs.remove.last_equal.Statement.{statement}
 use Rattle.writing.proofs.remove.last_equal.Tie as tie
@@ -24,7 +24,7 @@ seen c = viewsIn (c .before .before .before .args .shape) (now (c .before .befor
 
 -- the slot of the turn
 in-round : (c : tie.At-loop Inv-loop μ-loop) → (c .before .before .before .args .at + c .loop .k) % c .before .slots .result < slots-of (c .before .before .before .args .shape .qbits)
-in-round c = omega (arith, c .before .slots .ensures .0, mod-lt (c .before .before .before .args .at + c .loop .k) {m = c .before .slots .result} (omega arith))
+in-round c = slot-round _ _ (c .before .before .before .args .at + c .loop .k) (c .before .slots .ensures .0)
 
 -- its remainder is equal, or it is passed
 by : (c : tie.Joined1 Inv-loop μ-loop) → ((c .before .get-remainder .result ≡ c .before .before .before .before .before .args .rem) × (c .if1 .last ≡ c .before .before .loop .k + 1)) ⊎ ((c .before .get-remainder .result ≢ c .before .before .before .before .before .args .rem) × (c .if1 .last ≡ c .before .before .loop .last))

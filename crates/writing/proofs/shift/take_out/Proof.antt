@@ -2,7 +2,6 @@
 use Prim.Native.Nat.{ℕ, _+_, _-_, _%_, _≤_, _<_}
 use mathlib.Core.Path.{_≡_, sym, ap, _∙_}
 use native.Mathlib.Omega.{arith}
-use native.Mathlib.Nat.{mod-lt}
 use lib.ListN.{length}
 use lib.Pow.{pow-pos}
 use denote.Ref.{now}
@@ -10,7 +9,7 @@ use Rattle.theory.specs.Shape.{slots as slots-of}
 use Rattle.theory.specs.number.Bytes.{le}
 use Rattle.theory.specs.writing.Slide.{slideDown}
 use Rattle.theory.specs.writing.PutIn.{down-step, down-none, take-out}
-use Rattle.theory.specs.images.Sizes.{slots-blocks}
+use Rattle.theory.specs.images.Sizes.{slots-blocks, slot-round}
 use Rattle.layout.specs.Whole.{Whole}
 use borrow.Author.Needs.{needs}
 use Rattle.writing.proofs.shift.take_out.Statement.{statement}
@@ -28,7 +27,7 @@ still c = rw (c .loop .inv .2) (c .before .before .before .pre .0)
 
 -- a slot round the end
 round : (c : tie.After-slots Inv-loop μ-loop) (t : ℕ) → t % c .slots .result < slots-of (c .before .before .args .shape .qbits)
-round c t = omega (arith, c .slots .ensures .0, mod-lt t {m = c .slots .result} (omega arith))
+round c t = slot-round _ _ t (c .slots .ensures .0)
 
 slots-requires : tie.Need-slots-requires Inv-loop μ-loop
 slots-requires c κs = search needs
