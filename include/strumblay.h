@@ -14,7 +14,7 @@
  *    2  the buffer's length is not that of the widths
  *    3  len above the slots
  *    4  max_qbits below qbits, above 59, or above qbits + rbits - 1
- *    5  len equals the slots
+ *    5  len above capacity
  *    6  the buffer is not sound
  *    7  no room
  *    8  the other filter's fingerprints are narrower
@@ -23,10 +23,13 @@
  *   11  planned maximum below the initial capacity
  *   12  the destination has the wrong length
  *
+ * The capacity is 19/20 of the slots, rounded up; no call that writes makes a fuller filter.
+ *
  * The lowest of 1 to 6 is given first, then 8, 7, 12; planning gives 11, 10, 9. A call checks 1 to 6
  * before it works. One that ends in `_quick`, and a step of a listing, asks 1 to 5: on a buffer that
- * is not sound it ends and stays inside, but its answer and record may be anything, 6 included, and
- * a quick writer may alter the blocks; the last eight bytes stay. */
+ * is not sound it ends and stays inside, but its answer may be anything, 6 included, and a quick
+ * writer may alter the blocks; the last eight bytes stay, and of the record only len is open, which
+ * is at most capacity. */
 #ifndef STRUMBLAY_H
 #define STRUMBLAY_H
 

@@ -1,5 +1,5 @@
-//! The original crate as a subject. It is asked on sound filters only, since it may loop for
-//! ever on others.
+//! The original crate as a subject. It is asked on images only, since it may loop for ever on
+//! other buffers: on sound filters, and, for reading, on holdings above capacity.
 
 use crate::call::{Answer, Call};
 use crate::model::{Filter, Numbers, Place, Widths};

@@ -43,14 +43,15 @@ pub fn some(rng: &mut Rng, filter: &Filter) -> (Numbers, Vec<u8>) {
 }
 
 fn edits(filter: &Filter) -> Vec<Edit> {
-    let (n, slots, width) = (filter.numbers(), filter.shape.slots(), filter.shape.width());
+    let (n, width) = (filter.numbers(), filter.shape.width());
+    let (slots, capacity) = (filter.shape.slots(), filter.shape.capacity());
     let mut edits =
         vec![Edit::Nothing, Edit::Longer, Edit::Shorter, Edit::Empty, Edit::Flip, Edit::LastByte];
     edits.extend([0, 5, n.qbits - 1, n.qbits + 1, 60, 64, 255].map(Edit::Qbits));
     edits.extend([0, n.rbits - 1, n.rbits + 1, 65 - n.qbits, 255].map(Edit::Rbits));
-    edits.extend(
-        [slots - 1, slots, slots + 1, u64::MAX, n.len.wrapping_sub(1), n.len + 1].map(Edit::Len),
-    );
+    edits.extend([capacity, capacity + 1, slots - 1].map(Edit::Len));
+    edits.extend([slots, slots + 1, u64::MAX].map(Edit::Len));
+    edits.extend([n.len.wrapping_sub(1), n.len + 1].map(Edit::Len));
     edits.extend([0, 1, n.qbits - 1, n.qbits, width - 1, width, 59, 60, 255].map(Edit::MaxQbits));
     edits
 }

@@ -32,8 +32,9 @@ impl Error {
     pub const TOO_MANY: Error = Error(3);
     /// 4: max_qbits below qbits, above 59, or above qbits + rbits - 1.
     pub const MAX_QBITS: Error = Error(4);
-    /// 5: len equals the slots.
-    pub const NO_EMPTY_SLOT: Error = Error(5);
+    /// 5: len above capacity. The capacity is 19/20 of the slots, rounded up; no call that writes
+    /// makes a fuller filter.
+    pub const TOO_FULL: Error = Error(5);
     /// 6: the buffer is not sound.
     pub const NOT_SOUND: Error = Error(6);
     /// 7: no room.
@@ -61,7 +62,7 @@ impl Error {
             2 => "the buffer's length is not that of the widths",
             3 => "len above the slots",
             4 => "max_qbits below qbits, above 59, or above qbits + rbits - 1",
-            5 => "len equals the slots",
+            5 => "len above capacity",
             6 => "the buffer is not sound",
             7 => "no room",
             8 => "the other filter's fingerprints are narrower",

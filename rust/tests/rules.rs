@@ -61,6 +61,7 @@ fn capacity_and_counts() {
     assert_eq!(filter.insert(60, 0), Ok(1));
     assert_eq!(filter.insert_quick(60, 2), Err(Error::NO_ROOM));
     assert_eq!(filter, full);
+    assert_eq!(filter.check(), Ok(()));
 }
 
 #[test]
@@ -74,7 +75,10 @@ fn refusals_in_order() {
     assert_eq!(check(&buffer[..88], 65, 6, 5), Err(Error::BUFFER_LENGTH));
     assert_eq!(check(&buffer, 65, 6, 5), Err(Error::TOO_MANY));
     assert_eq!(check(&buffer, 64, 6, 5), Err(Error::MAX_QBITS));
-    assert_eq!(check(&buffer, 64, 6, 0), Err(Error::NO_EMPTY_SLOT));
+    for len in [62, 63, 64] {
+        assert_eq!(check(&buffer, len, 6, 0), Err(Error::TOO_FULL));
+    }
+    assert_eq!(check(&buffer, 61, 6, 0), Err(Error::NOT_SOUND));
     assert_eq!(check(&buffer, 2, 6, 0), Err(Error::NOT_SOUND));
 }
 

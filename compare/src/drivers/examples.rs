@@ -26,7 +26,8 @@ pub fn drive(_effort: Effort) {
     three(&mut table);
     wrapped(&mut table);
     saturated(&mut table);
-    nearly_full(&mut table);
+    at_capacity(&mut table);
+    max_count_0(&mut table);
     println!("{NAME}: {} hold", table.0);
 }
 
@@ -110,18 +111,31 @@ fn saturated(table: &mut Table) {
     table.holds("the original's offsets", offsets(original.buffer()), after);
 }
 
-/// 61 is full, 63 may be sound, 64 gives 5, 65 gives 3; max_count 0 adds what is absent.
-fn nearly_full(table: &mut Table) {
+/// 61 is full and may be sound, 62 to 64 give 5, 65 gives 3.
+fn at_capacity(table: &mut Table) {
     let (mut filter, mut original) = both(shape(6, 8), &[9; 61]);
     table.holds("insert at 61", filter.insert(10, 1), Err(7));
     let refused = original.insert_without_growth(1, 10).map_err(number_of);
     table.holds("the original at 61", refused, Err(7));
     table.holds("held is answered first", filter.insert(9, 0), Ok(1));
-    filter.add(11);
-    filter.add(12);
+    for (len, number) in [(61, None), (62, Some(5)), (63, Some(5))] {
+        table.holds(
+            &format!("{len} copies"),
+            check(filter.numbers(), &filter.image()).err(),
+            number,
+        );
+        let original = from_model(&filter, &filter.image());
+        table.holds("the original counts them", original.count_fingerprint(9), len);
+        filter.add(9);
+    }
+    filter.held.pop();
     let image = filter.image();
-    let sound = |len: u64| check(Numbers { len, ..filter.numbers() }, &image).err();
-    table.holds("63, 64, 65", [63, 64, 65].map(sound), [None, Some(5), Some(3)]);
+    let due = |len: u64| check(Numbers { len, ..filter.numbers() }, &image).err();
+    table.holds("64 and 65", [64, 65].map(due), [Some(5), Some(3)]);
+}
+
+/// max_count 0 adds what is absent.
+fn max_count_0(table: &mut Table) {
     let (mut filter, mut original) = both(shape(6, 8), &[]);
     table.holds("max_count 0, absent", filter.insert(5, 0), Ok(0));
     table.holds("max_count 0, held", filter.insert(5, 0), Ok(1));

@@ -1,8 +1,9 @@
-//! Every proved call on filters with one or two things wrong, and on damaged buffers: the lowest
+//! Lookup, count, insert, remove, insert with a spare and listing of the proved library, on filters
+//! with one or two things wrong, on holdings above capacity, and on damaged buffers: the lowest
 //! number is given and nothing changes; a quick call on a damaged buffer ends and stays inside.
 
 use super::Effort;
-use super::reads::some_len;
+use super::reads::{above_capacity, some_len};
 use crate::call::Call;
 use crate::generate::Hashes;
 use crate::model::{Filter, Numbers, Place, Shape, due_before_image};
@@ -37,6 +38,8 @@ pub fn drive(effort: Effort) {
             wrong::each(&mut rng, &filter, &mut |rng, n, bytes| {
                 tally.all(rng, &hashes, &filter, n, bytes)
             });
+            let full = above_capacity(&mut rng, shape, &hashes);
+            tally.all(&mut rng, &hashes, &full, full.numbers(), &full.image());
             let flips = qbits < 8 && round < 2 * effort.times;
             let mut draw = rng.clone();
             damage::each(&mut rng, &filter, flips, &mut |n, bytes| {

@@ -14,7 +14,7 @@ pub fn due_before_image(numbers: Numbers, buffer_len: u64) -> Result<Shape, u64>
     if !shape.allows(numbers.max_qbits) {
         return Err(4);
     }
-    if numbers.len == shape.slots() {
+    if numbers.len > shape.capacity() {
         return Err(5);
     }
     Ok(shape)

@@ -3,7 +3,7 @@
 use super::image::{carries, image};
 use super::{Numbers, Place, Shape};
 
-/// A sound filter: its numbers, and what it holds in ascending order.
+/// A filter: its numbers, and what it holds in ascending order. Within capacity it is sound.
 #[derive(Clone, PartialEq, Eq, Debug)]
 pub struct Filter {
     pub shape: Shape,
@@ -12,9 +12,9 @@ pub struct Filter {
 }
 
 impl Filter {
-    /// The filter of this holding, given in any order.
+    /// The filter of this holding, given in any order and within capacity.
     pub fn new(shape: Shape, max_qbits: u8, mut held: Vec<u64>) -> Filter {
-        assert!(shape.allows(max_qbits) && (held.len() as u64) < shape.slots());
+        assert!(shape.allows(max_qbits) && held.len() as u64 <= shape.capacity());
         held.sort_unstable();
         Filter { shape, max_qbits, held }
     }

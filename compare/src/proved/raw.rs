@@ -3,7 +3,7 @@
 
 use super::subject::Proved;
 use crate::call::{Answer, Call, ask_model};
-use crate::model::{Numbers, check};
+use crate::model::{Numbers, Shape, check};
 use crate::sequence::{Expected, ask};
 use crate::subject::Subject;
 
@@ -42,10 +42,12 @@ pub fn compare(
     }
 }
 
-/// A quick call where 6 is due: neither answer nor blocks are fixed, all else is. The spare stays
-/// whole, and an insert that is refused has changed nothing.
+/// A quick call where 6 is due: neither answer, len nor blocks are fixed, all else is. The spare
+/// stays whole and is not named, an insert that is refused has changed nothing, and len is at most
+/// capacity.
 fn free(subject: &mut Proved, bytes: &[u8], call: &Call) -> Result<Seen, String> {
-    let Some(answer) = subject.ask(call, subject.numbers()) else {
+    let before = subject.numbers();
+    let Some(answer) = subject.ask(call, before) else {
         return Ok(Seen::NotOffered);
     };
     if let Answer::Broken(what) = answer {
@@ -53,6 +55,11 @@ fn free(subject: &mut Proved, bytes: &[u8], call: &Call) -> Result<Seen, String>
     }
     if matches!(answer, Answer::Spare { in_spare: true, .. }) {
         return Err("a damaged buffer grew into the spare".into());
+    }
+    let after = subject.numbers();
+    let shape = Shape { qbits: before.qbits, rbits: before.rbits };
+    if after != (Numbers { len: after.len, ..before }) || after.len > shape.capacity() {
+        return Err(format!("the record is {after:?} afterwards"));
     }
     let last_eight = |bytes: &[u8]| bytes[bytes.len() - 8..].to_vec();
     if last_eight(subject.bytes()) != last_eight(bytes) {

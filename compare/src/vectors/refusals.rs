@@ -33,7 +33,7 @@ fn wrong_records(replay: &mut Replay, right: u64) {
         (20, widths(6, 8, 14), 89),
         (20, widths(6, 58, 60), 489),
         (64, right, 89),
-        (64, widths(6, 8, 13), 89),
+        (62, widths(6, 8, 13), 89),
     ];
     for (len, widths, size) in wrong {
         replay.call(Line('r', len, widths, size));

@@ -101,15 +101,27 @@ fn examples(replay: &mut Replay) {
     each(replay, [Line('i', 0x0001, 1, 0), Line('a', 0x3e09, 0, 4), Line('k', 0, 0, 0)]);
     listed(replay);
     each(replay, [Line('m', 0x3f07, 0, 0); 4]);
-    // Past capacity, by its bytes alone: 61 held in as many quotients, and two more.
+    at_capacity(replay, shape);
+}
+
+/// 61 held in 64 slots, then two more by the bytes alone, with the lens 62, 64 and 65, which do not
+/// count them, and 63, which does; at last 61 again.
+fn at_capacity(replay: &mut Replay, shape: Shape) {
     fresh(replay, shape, 0);
     each(replay, [Line('a', 0, 0x100, 61), Line('i', 0x3d00, 1, 0), Line('i', 0x3c00, 1, 0)]);
     each(replay, [Line('b', 8, 0x7f, 0), Line('b', 16, 0x7f, 0), Line('k', 0, 0, 0)]);
-    each(replay, [Line('r', 63, widths(6, 8, 0), 89), Line('k', 0, 0, 0), Line('i', 0x3f00, 1, 0)]);
-    each(replay, [Line('i', 0x3e00, 1, 0), Line('n', 0x3e00, 0, 0), Line('o', 0, 0, 0)]);
-    // A wider one adds nothing to it.
+    for len in [62, 64, 65, 63] {
+        each(replay, [Line('r', len, widths(6, 8, 0), 89), Line('k', 0, 0, 0)]);
+    }
+    each(replay, [Line('i', 0x3f00, 1, 0), Line('I', 0x3e00, 1, 0), Line('n', 0x3e00, 0, 0)]);
+    // A wider one is not merged with it, nor it with the wider one.
+    replay.call(Line('o', 0, 0, 0));
     fresh(replay, Shape { qbits: 6, rbits: 9 }, 0);
-    each(replay, [Line('a', 0, 0x100, 20), Line('o', 0, 0, 0), Line('j', 89, 0, 0)]);
+    each(replay, [Line('a', 0, 0x100, 20), Line('j', 97, 1, 0)]);
+    each(replay, [Line('o', 0, 0, 0), Line('j', 89, 0, 0)]);
+    // Put right it is full: what adds nothing is merged.
+    each(replay, [Line('b', 8, 0x1f, 0), Line('b', 16, 0x1f, 0)]);
+    each(replay, [Line('r', 61, widths(6, 8, 0), 89), Line('k', 0, 0, 0), Line('j', 89, 0, 0)]);
     each(replay, [Line('j', 89, 1, 0), Line('m', 0x3e00, 0, 0), Line('m', 0, 0, 0)]);
 }
 

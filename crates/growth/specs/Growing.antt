@@ -9,7 +9,7 @@ use lib.Pow.{pow-add}
 use Rattle.theory.specs.Shape.{slots, capacity, fingerprint}
 use Rattle.theory.specs.Image.{image}
 use Rattle.theory.specs.images.ImageBytes.{image-length}
-use Rattle.theory.specs.refusals.ByNumber.{clear-none}
+use Rattle.theory.specs.refusals.ByNumber.{clear, clear-none}
 use Rattle.layout.specs.declared.numbers.Numbers.{Numbers}
 use Rattle.layout.specs.Records.{lowestDue, fingerprintOf, HoldsOf}
 use Rattle.growth.specs.Rebuilding.{grownTo, growDue, grow-seven, grown-fits}
@@ -41,12 +41,7 @@ module _ (n : Numbers) (s l : List ℕ) (e : lowestDue n s ≡ 0) (h : HoldsOf n
   pub grown-clear : lowestDue (grownTo n (length l)) (image (n .qbits + 1) (n .rbits - 1) l) ≡ 0
   grown-clear =
       let f = grown-fits n s e above .0 in
-      clear-none (n .qbits + 1) (n .rbits - 1) (length l) (n .«max_qbits») _ (record {
-        widths = f .widths;
-        size-is = image-length (n .qbits + 1) (n .rbits - 1) l;
-        fewer = omega (arith, few, twice);
-        max-none = f .max-none;
-      })
+      clear-none (n .qbits + 1) (n .rbits - 1) (length l) (n .«max_qbits») _ (clear (f .widths) (image-length (n .qbits + 1) (n .rbits - 1) l) (omega (arith, f .room, h .many)) (f .max-none))
 
   pub grown-holds : HoldsOf (grownTo n (length l)) (image (n .qbits + 1) (n .rbits - 1) l) l
   unfolding slots

@@ -22,7 +22,7 @@ use Rattle.filter.specs.Answers.{saysHeld, contains-alike, count-alike}
 use Rattle.writing.specs.declared.writers.Removed.{Removed}
 use Rattle.writing.specs.declared.writers.Removed.the-variants.{Gone}
 use Rattle.writing.specs.Writing.{Turns, inserting, Remove}
-use Rattle.writing.specs.Kept.{HoldingOf, other-clear, other-holds, insert-holding}
+use Rattle.writing.specs.Kept.{HoldingWithin, other-clear, other-holds, insert-holding}
 use Rattle.writing.specs.Traces.{grown, put-back}
 use Rattle.growth.specs.declared.rebuild.Rebuilt.the-variants.{Filter}
 use Rattle.growth.specs.declared.spare.Placed.{Placed}
@@ -107,7 +107,7 @@ module _ (n : Numbers) (s d : List ℕ) (y : SoundOf n s) (hash most : ℕ) (a :
           let clear = grown-clear n s l (y .none) (y .holds) above in
           let fingerprint = grown-fingerprint n s l (y .none) (y .holds) above (length l) hash in
           let room = room-due (capacity (n .qbits + 1)) most (fingerprintOf g hash) l (grown-room n s l (y .none) (y .holds) above) in
-          let h : HoldingOf g (inserted most f l) = rw fingerprint at (insert-holding g grown l clear (grown-holds n s l (y .none) (y .holds) above) hash most room) in
+          let h : HoldingWithin g (inserted most f l) = rw fingerprint at (insert-holding g grown l clear (grown-holds n s l (y .none) (y .holds) above) hash most room) in
           named (InSpare _ _) (r .0) (record {
             none = other-clear g grown clear (inserted most f l) e (r .1) h;
             held = inserted most f l;

@@ -1,5 +1,6 @@
 -- The promises of growth, and what follows of them.
 pub mod Adding
+pub mod Capacity
 pub mod Counting
 pub mod Growing
 pub mod Holder

@@ -84,9 +84,9 @@ module _ (n : Numbers) (s : List ℕ) (m : Numbers) (o : List ℕ) (e : lowestDu
         let has : W ≤ capacity q = rw eq (width-found (suc (last - n .qbits)) (n .qbits) W (omega (arith, eq))) in
         let room : wanted keep la lb ≤ capacity q = omega (arith, has, wn .right la lb x y) in
         let made : t₀ ≡ image q rest [] = g .made refl .0 in
-        let one = j .first .right [] la (shows-self n s m o e f la x) (sym (x .many)) (subst (λ (z : List ℕ). Shows h z []) (sym made) (shows-empty h (w .0 .low))) refl (λ z. omega (arith, ap length own, own-wanted keep la lb .0)) in
+        let one = j .first .right [] la (shows-self n s m o e f la x) (sym (x .many)) (subst (λ (z : List ℕ). Shows h z []) (sym made) (shows-empty h (w .0 .low))) refl (omega (arith, ap length own, own-wanted keep la lb .0)) in
         let shown : Shows h (j .between) (ownOf keep la) = subst (Shows h (j .between)) own (one .0) in
-        let two = j .second .right (ownOf keep la) lb (shows-other n s m o e f lb y) (sym (y .many)) shown (one .1 ∙ ap length own) (λ z. omega (arith, ap length both, own-wanted keep la lb .1)) in
+        let two = j .second .right (ownOf keep la) lb (shows-other n s m o e f lb y) (sym (y .many)) shown (one .1 ∙ ap length own) (omega (arith, ap length both, own-wanted keep la lb .1)) in
         let tail : SameTail h (image q rest []) t = j .second .tail ∙ j .first .tail ∙ ap (λ z. tailAt rest (blocks q) (le z)) made in
         subst (At la lb _ t) (is-q la lb x y)
         (leaves-done _ (withShape n shape (length (joined keep la lb))) _ (joined keep la lb) d (else-none (joinedDue (n .qbits) (n .«max_qbits») (wanted keep la lb)) _ (not-seven la lb x y) ∙ sym (g .is)) (withShape n shape a) (ap (withShape n shape) (two .1 ∙ ap length both)) t

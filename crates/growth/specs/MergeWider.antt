@@ -4,17 +4,16 @@ use mathlib.Core.Path.{_≡_, sym, ap, subst, _∙_}
 use mathlib.Core.Logic.{_≢_}
 use mathlib.Core.List.{List}
 use native.Mathlib.Omega.{arith}
-use native.Mathlib.Decide.{decLt}
 use lib.ListN.{length}
-use Rattle.theory.specs.tools.Choose.{choose-yes}
 use Rattle.theory.specs.Shape.{capacity, bytes}
 use Rattle.theory.specs.Image.{image}
 use Rattle.theory.specs.Joining.{taken, takenDue}
 use Rattle.theory.specs.number.Bytes.{Bytes}
 use Rattle.theory.specs.refusals.PlanRefused.{destination-none, destination-due}
 use Rattle.theory.specs.refusals.ByNumber.{else-none, else-some}
-use Rattle.layout.specs.Judging.{clear-of}
+use Rattle.layout.specs.Judging.{clear-of, held-within}
 use Rattle.theory.specs.plan.Limits.{few}
+use Rattle.theory.specs.list.MergeLength.{none-few}
 use Rattle.layout.specs.declared.numbers.Numbers.{Numbers}
 use Rattle.filter.specs.Lookup.{Shows}
 use Rattle.growth.specs.declared.rebuild.Rebuilt.the-variants.{Filter, Refused}
@@ -48,16 +47,9 @@ module _ (n : Numbers) (s : List ℕ) (m : Numbers) (o : List ℕ) (e : lowestDu
         leaves-refused _ (withLen n (length (all la lb))) _ (all la lb) d 12
         (else-none (takenDue (n .qbits) la (all la lb)) _ (sym (is-due la lb x y) ∙ none) ∙ destination-due (n .qbits) (n .rbits) (length d) (λ z. h (z ∙ sym size-is))) (omega arith)
 
-    -- an added copy does not pass capacity
-    room : (la lb : List ℕ) → HoldsOf n s la → HoldsOf m o lb → length la < length (all la lb) → length (all la lb) ≤ capacity (n .qbits)
-    unfolding takenDue
-    room la lb x y h = go (decLt (capacity (n .qbits)) (length (all la lb)))
-      where
-        go : Dec (capacity (n .qbits) < length (all la lb)) → length (all la lb) ≤ capacity (n .qbits)
-        go (no z) = omega arith
-        go (yes z) =
-            let c : takenDue (n .qbits) la (all la lb) ≡ 7 = choose-yes (decLt (length la) (length (all la lb))) _ 0 h ∙ choose-yes (decLt (capacity (n .qbits)) (length (all la lb))) 7 0 z in
-            absurd (omega (arith, c, is-due la lb x y))
+    -- the result does not pass capacity
+    room : (la lb : List ℕ) → HoldsOf n s la → HoldsOf m o lb → length (all la lb) ≤ capacity (n .qbits)
+    room la lb x y = none-few (n .qbits) la (all la lb) (sym (is-due la lb x y) ∙ none) (held-within n s la e x)
 
     pub wider-built : length d ≡ length s → (a : ℕ) (t : List ℕ) → Bytes t → length t ≡ length d → TakesIn (shapeOf m) o (m .len) (shapeOf n) s (n .len) (mostOf keep) a t
         → MergesWider n s m o keep d (Filter (withLen n a)) t
@@ -66,7 +58,7 @@ module _ (n : Numbers) (s : List ℕ) (m : Numbers) (o : List ℕ) (e : lowestDu
         let na : length la < 2 ^ 60 = omega (arith, x .many, few _ _ _ _ _ e) in
         let nb : length lb < 2 ^ 60 = omega (arith, y .many, few _ _ _ _ _ f) in
         let is = takes-wider h keep la lb na nb in
-        let r = g .right la lb (shows-other n s m o e f lb y) (sym (y .many)) (shows-self n s m o e f la x) (sym (x .many)) (λ z. omega (arith, ap length is, room la lb x y (omega (arith, ap length is)))) in
+        let r = g .right la lb (shows-other n s m o e f lb y) (sym (y .many)) (shows-self n s m o e f la x) (sym (x .many)) (omega (arith, ap length is, room la lb x y)) in
         let tail : SameTail h (image (n .qbits) (n .rbits) la) t = subst (λ (z : List ℕ). SameTail h z t) (x .bytes) (g .tail) in
         leaves-done _ (withLen n (length (all la lb))) _ (all la lb) d
         (else-none (takenDue (n .qbits) la (all la lb)) _ (sym (is-due la lb x y) ∙ none) ∙ destination-none (n .qbits) (n .rbits) (length d) (same ∙ size-is)) (withLen n a) (ap (withLen n) (r .1 ∙ ap length is)) t

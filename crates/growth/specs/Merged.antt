@@ -14,8 +14,8 @@ use Rattle.theory.specs.Refusal.{maxDue}
 use Rattle.theory.specs.Joining.{limit, joined, taken, wanted, joinedQbits, joinedDue}
 use Rattle.theory.specs.plan.Needed.{width-low, width-found}
 use Rattle.theory.specs.refusals.Demands.{checked-one, not-refused}
-use Rattle.theory.specs.refusals.ByNumber.{clear-none, else-first}
-use Rattle.layout.specs.Judging.{clear-of}
+use Rattle.theory.specs.refusals.ByNumber.{clear, clear-none, else-first}
+use Rattle.layout.specs.Judging.{clear-of, held-within}
 use Rattle.theory.specs.images.ImageBytes.{image-length}
 use Rattle.theory.specs.list.StillHolding.{joined-holding, taken-holding}
 use Rattle.theory.specs.images.Sizes.{capacity-lt}
@@ -58,12 +58,11 @@ merge-pinned n s m o keep d a b t u p g =
 
 -- ---- a rebuild that is not refused: if its list is a holding of allowed widths, the filter holds it
 module _ (k : ℕ) (n : Numbers) (h : Shape) (l d : List ℕ) (x : Numbers) (t : List ℕ) (p : Lands k (withShape n h (length l)) l d (gives x) t) where
-  landed-holds : Widths (h .qbits) (h .rbits) → maxDue (h .qbits) (h .rbits) (n .«max_qbits») ≡ 0 → Holding (slots (h .qbits)) (2 ^ h .rbits) l → (lowestDue x t ≡ 0) × HoldsOf x t l
-  landed-holds w e z =
+  landed-holds : Widths (h .qbits) (h .rbits) → maxDue (h .qbits) (h .rbits) (n .«max_qbits») ≡ 0 → Holding (slots (h .qbits)) (2 ^ h .rbits) l → length l ≤ capacity (h .qbits) → (lowestDue x t ≡ 0) × HoldsOf x t l
+  landed-holds w e z room =
       let b = leaves-given k _ (withShape n h (length l)) l d x t p in
       rw (b .1, b .2) (
-        clear-none (h .qbits) (h .rbits) (length l) (n .«max_qbits») (length (image (h .qbits) (h .rbits) l))
-            (record { widths = w; size-is = image-length (h .qbits) (h .rbits) l; fewer = z .fewer; max-none = e }),
+        clear-none (h .qbits) (h .rbits) (length l) (n .«max_qbits») (length (image (h .qbits) (h .rbits) l)) (clear w (image-length (h .qbits) (h .rbits) l) room e),
         record { holding = z; many = refl; bytes = refl },
       )
 
@@ -103,10 +102,11 @@ module _ (n : Numbers) (s : List ℕ) (m : Numbers) (o : List ℕ) (keep : ℕ) 
         let low : n .qbits ≤ q = width-low (suc (limit (n .qbits) (n .«max_qbits») - n .qbits)) (n .qbits) (wanted keep la lb) in
         let w = limit-widths _ _ _ _ _ e q low high in
         let sum : 2 ^ q * 2 ^ r ≡ 2 ^ widthOf n = sym (pow-add 2 q r) ∙ ap (λ z. 2 ^ z) (omega (arith, w .2)) in
-        let room : wanted keep la lb ≤ capacity q = width-found (suc (limit (n .qbits) (n .«max_qbits») - n .qbits)) (n .qbits) (wanted keep la lb) (omega arith) in
+        let wide : wanted keep la lb ≤ capacity q = width-found (suc (limit (n .qbits) (n .«max_qbits») - n .qbits)) (n .qbits) (wanted keep la lb) (omega arith) in
+        let room : length (joined keep la lb) ≤ capacity q = omega (arith, own-wanted keep la lb .1, wide) in
         let ub : Under (2 ^ widthOf n) lb = subst (λ z. Under (2 ^ z) lb) same (held-under (shapeOf m) o lb (shows-other n s m o e f lb hb)) in
         landed-holds _ n (shapeFor n q) (joined keep la lb) d x t (cases .equal same) (w .0) (w .1)
-        (joined-holding (2 ^ q) (2 ^ r) la lb (ha .holding .ascending) (rw sum under-self) keep (rw sum ub) (omega (arith, own-wanted keep la lb .1, room, capacity-lt q (w .0 .low))))
+        (joined-holding (2 ^ q) (2 ^ r) la lb (ha .holding .ascending) (rw sum under-self) keep (rw sum ub) (omega (arith, room, capacity-lt q (w .0 .low)))) room
 
     -- other wider: it holds self with what is taken of the other, cut to self's width
     wider-holds : widthOf n < widthOf m → (lowestDue x t ≡ 0) × HoldsOf x t (taken keep (n .qbits) (n .rbits) la lb)
@@ -115,9 +115,10 @@ module _ (n : Numbers) (s : List ℕ) (m : Numbers) (o : List ℕ) (keep : ℕ) 
         let c = clear-of n s e in
         let l = taken keep (n .qbits) (n .rbits) la lb in
         let none = else-first _ _ (leaves-given _ _ (withLen n (length l)) l d x t (cases .wider more) .0) in
+        let room = none-few (n .qbits) la l none (held-within n s la e ha) in
         landed-holds _ n (shapeOf n) l d x t (cases .wider more) (c .widths) (c .max-none)
         (taken-holding (2 ^ n .qbits) (2 ^ n .rbits) la lb (ha .holding .ascending) (ha .holding .under) keep (n .qbits) (n .rbits) (sym (pow-add 2 (n .qbits) (n .rbits)))
-        (none-few (n .qbits) (c .widths .low) la l none (ha .holding .fewer)))
+        (omega (arith, room, capacity-lt (n .qbits) (c .widths .low)))) room
 
   -- and left a sound one
   pub merged-sound : SoundOf x t

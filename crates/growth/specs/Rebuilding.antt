@@ -113,7 +113,7 @@ module _ (n : Numbers) (s : List ℕ) (e : lowestDue n s ≡ 0) (l : List ℕ) (
       let sh = holds-shows n s l (c .widths) w in
       let same : takenIn h most [] l ≡ l =
       taken-all h most [] l (rw sum (held-under (shapeOf n) s l sh)) (omega (arith, w .many)) ∙ added-alone l (w .holding .ascending) in
-      let r = g .right [] l sh (sym (w .many)) (shows-empty h (wd .low)) refl (λ z. omega (arith, ap length same, w .many)) in
+      let r = g .right [] l sh (sym (w .many)) (shows-empty h (wd .low)) refl (omega (arith, ap length same, w .many)) in
       (subst (Shows h t) same (r .0), r .1 ∙ ap length same)
 
 pub grow-seven : (n : Numbers) (size : ℕ) → n .«max_qbits» ≤ n .qbits → growDue n size ≡ 7

@@ -16,11 +16,12 @@ use Rattle.theory.specs.refusals.ByNumber.{due-most}
 use Rattle.theory.specs.refusals.SoundDecided.{sound-dec}
 use Rattle.theory.specs.refusals.Demands.{not-refused}
 use Rattle.layout.specs.declared.numbers.Numbers.{Numbers}
-use Rattle.layout.specs.Records.{withLen, Changed, lowestDue, SoundOf, HoldsOf, fingerprintOf, CheckedOn, QuickOn, Leaves}
+use Rattle.layout.specs.Records.{withLen, Changed, lowestDue, SoundOf, HoldsOf, Keeps, fingerprintOf, CheckedOn, QuickOn, Leaves}
+use Rattle.layout.specs.Outcomes.{leaves-given}
 use Rattle.writing.specs.declared.writers.Inserted.{Inserted}
 use Rattle.writing.specs.declared.writers.Inserted.the-variants as inserted
 use Rattle.writing.specs.Says.{insertedSays, inserted-tells}
-use Rattle.writing.specs.Writing.{Turns, inserting, Insert, InsertQuick, Inside, InsertLeaves}
+use Rattle.writing.specs.Writing.{Turns, inserting, Insert, InsertQuick, Inside, ChangedWithin, InsertLeaves}
 use Rattle.growth.specs.declared.rebuild.Rebuilt.the-variants as rebuilt
 use Rattle.growth.specs.declared.spare.Placed.{Placed}
 use Rattle.growth.specs.declared.spare.Placed.the-variants.{InOld, InSpare, Refused}
@@ -44,11 +45,18 @@ abbrev pub InsertSpare : Numbers → ℕ → ℕ → List ℕ → List ℕ → P
 InsertSpare n hash most s d a t e =
     CheckedOn n s (λ k. (placedSays a ≡ refuses k) × (t ≡ s) × (e ≡ d)) (λ l. Places n (inserting n hash most) l s d (placedSays a) t e)
 
--- on any buffer the quick form keeps the old one's length and last eight bytes, and the spare whole unless the old one is sound; and what is refused has changed nothing
+-- the record that an answer gives is the one given, or, where a sound filter grew, that of growth, with a len of at most capacity
+abbrev pub PlacedWithin : Numbers → List ℕ → Placed → Type 0
+PlacedWithin n s (InOld m n′) = Keeps n n′
+PlacedWithin n s (InSpare m n′) = SoundOf n s × Keeps (grownTo n (n .len)) n′
+PlacedWithin n s (Refused k) = Unit {0}
+
+-- on any buffer the quick form keeps the old one's length and last eight bytes, and the spare whole unless the old one is sound; what is refused has changed nothing; and the record is as above
 pub record SpareLeaves (n : Numbers) (s d : List ℕ) (a : Placed) (t e : List ℕ) : Type 0 where
   pub inside : Inside s t
   pub whole : ¬ (SoundOf n s) → e ≡ d
   pub refused : (k : ℕ) → placedSays a ≡ refuses k → (t ≡ s) × (e ≡ d)
+  pub within : PlacedWithin n s a
 
 abbrev pub InsertSpareQuick : Numbers → ℕ → ℕ → List ℕ → List ℕ → Placed → List ℕ → List ℕ → Type 0
 InsertSpareQuick n hash most s d a t e =
@@ -68,6 +76,10 @@ spare-says : (z : Inserted) → placedSays (inSpare z) ≡ spared (insertedSays 
 spare-says (inserted.Counted m after) = refl
 spare-says (inserted.Refused k) = refl
 
+spare-within : (n : Numbers) (s : List ℕ) → SoundOf n s → (z : Inserted) → ChangedWithin (grownTo n (n .len)) (insertedSays z) → PlacedWithin n s (inSpare z)
+spare-within n s y (inserted.Counted m after) w = (y, w)
+spare-within n s y (inserted.Refused k) w = tt
+
 pub record PutsInSpare (n : Numbers) (hash most : ℕ) (s : List ℕ) (a : Placed) (t : List ℕ) : Type 0 where
   pub answer : Inserted
   pub right : InsertQuick n hash most s answer t
@@ -81,6 +93,7 @@ pub record MovesWorked (n : Numbers) (hash most : ℕ) (s d : List ℕ) (a : Pla
   pub right : (l : List ℕ) → lowestDue n s ≡ 0 → HoldsOf n s l → 0 < inserting n hash most .due l → Moves n (inserting n hash most) l d (placedSays a) e
   pub whole : ¬ (SoundOf n s) → e ≡ d
   pub refused : (k : ℕ) → placedSays a ≡ refuses k → e ≡ d
+  pub within : PlacedWithin n s a
 
 -- what the answer of the plain insert leads to
 abbrev pub MovesIfFull : Numbers → ℕ → ℕ → List ℕ → List ℕ → Inserted → Placed → List ℕ → Type 0
@@ -112,6 +125,7 @@ module _ (n : Numbers) (hash most : ℕ) (s d : List ℕ) where
         };
     whole = λ _. kept k t g;
     refused = λ _ _. kept k t g;
+    within = tt;
   }
 
   -- growth was done, and the insert into the spare found room
@@ -142,11 +156,23 @@ module _ (n : Numbers) (hash most : ℕ) (s d : List ℕ) where
     placed k x (inl z) = let y = in-spare (grew .0 .held) (grew .0 .none) (grew .0 .holds) z .0 in let v : _≡_ {A = ℕ} 0 1 = cc in omega arith
     placed k x (inr z) = never (grew .0 .held) (grew .1) z
 
+    -- the record of growth, whatever its len, is the one that the insert keeps to
+    grown-is : g ≡ grownTo n (length (grew .0 .held))
+    grown-is = leaves-given _ _ (grownTo n (length (grew .0 .held))) (grew .0 .held) d g m (grew .1) .1
+
+    re-len : (z : Inserted) (k : ℕ) → ChangedWithin (grownTo n k) (insertedSays z) → ChangedWithin (grownTo n (n .len)) (insertedSays z)
+    re-len (inserted.Counted j after) k w = record { rest = w .rest; within = w .within }
+    re-len (inserted.Refused j) k w = tt
+
+    kept-grown : ChangedWithin (grownTo n (n .len)) (insertedSays (p .answer))
+    kept-grown = re-len (p .answer) _ (subst (λ (x : Numbers). ChangedWithin x (insertedSays (p .answer))) grown-is (p .right .other .2))
+
     pub moves-grown : MovesWorked n hash most s d a t
     moves-grown = record {
       right = λ l e h c. record { refused = λ z. absurd (never l (w .sound e l h) z); done = λ z. in-spare l e h z };
       whole = λ y. absurd (y (grew .0));
       refused = λ k x. absurd (placed k x (eq-zero-or-pos (growDue n (length d))));
+      within = subst (PlacedWithin n s) (sym (p .is)) (spare-within n s (grew .0) (p .answer) kept-grown);
     }
 
 -- each answer of the plain insert
@@ -195,11 +221,12 @@ module _ (n : Numbers) (hash most : ℕ) (s d : List ℕ) (z : Inserted) (t : Li
   pub spared-quick : InsertQuick n hash most s z t → InsertSpareQuick n hash most s d a t e
   spared-quick i = record { early = early (i .early); sound = λ c l h. places l c h (i .sound c l h); other = leaves z w (i .other) }
     where
-      leaves : (z : Inserted) → MovesIfFull n hash most t d z a e → InsertLeaves s z t → SpareLeaves n s d a t e
+      leaves : (z : Inserted) → MovesIfFull n hash most t d z a e → InsertLeaves n s z t → SpareLeaves n s d a t e
       leaves (inserted.Counted m after) w i = record {
         inside = i .0;
         whole = λ _. w .1;
         refused = λ k x. let y = ap placedSays (w .0) in let v : _≡_ {A = ℕ} 0 1 = cc in absurd (omega arith);
+        within = subst (PlacedWithin n s) (sym (w .0)) (i .2);
       }
       leaves (inserted.Refused k) w i = go (ℕ-discrete k 7)
         where
@@ -209,5 +236,5 @@ module _ (n : Numbers) (hash most : ℕ) (s d : List ℕ) (z : Inserted) (t : Li
           go : Dec (k ≡ 7) → SpareLeaves n s d a t e
           go (yes y) =
               let worked : MovesWorked n hash most s d a e = subst (λ (x : List ℕ). MovesWorked n hash most x d a e) same (w .1 y) in
-              record { inside = i .0; whole = worked .whole; refused = λ j x. (same, worked .refused j x) }
-          go (no y) = record { inside = i .0; whole = λ _. w .0 y .1; refused = λ _ _. (same, w .0 y .1) }
+              record { inside = i .0; whole = worked .whole; refused = λ j x. (same, worked .refused j x); within = worked .within }
+          go (no y) = record { inside = i .0; whole = λ _. w .0 y .1; refused = λ _ _. (same, w .0 y .1); within = subst (PlacedWithin n s) (sym (w .0 y .0)) tt }

@@ -13,7 +13,7 @@ use Rattle.theory.specs.Changing.{allowed, upTo, insertDue, inserted}
 use Rattle.theory.specs.number.Bytes.{le}
 use Rattle.theory.specs.images.Block.{tailAt}
 use Rattle.theory.specs.list.More.{more-length}
-use Rattle.theory.specs.list.RuleCases.{up-to-by, up-to-more, enough-due, room-due}
+use Rattle.theory.specs.list.RuleCases.{up-to-more, enough-due, room-due}
 use Rattle.theory.specs.list.UpTo.{addedUpTo, up-to-grows}
 use Rattle.layout.specs.declared.shape.Shape.{Shape}
 use Rattle.writing.specs.declared.insert.Insertion.{Insertion}
@@ -34,10 +34,10 @@ SameTail h s t = tailAt (h .rbits) (blocks (h .qbits)) (le t) ≡ tailAt (h .rbi
 abbrev pub takenIn : Shape → ℕ → List ℕ → List ℕ → List ℕ
 takenIn h most a b = addedUpTo (allowed most) a (map (fingerprint (h .qbits) (h .rbits)) b)
 
--- if both show a list, and none is added past capacity, then all are taken in; and on any buffer the last eight bytes stay
+-- if both show a list, and all fit, then all are taken in; and on any buffer the last eight bytes stay
 pub record TakesIn (h : Shape) (s : List ℕ) (count : ℕ) (h′ : Shape) (d : List ℕ) (len most a : ℕ) (t : List ℕ) : Type 0 where
   pub right : (l b : List ℕ) → Shows h s b → count ≡ length b → Shows h′ d l → len ≡ length l
-      → (length l < length (takenIn h′ most l b) → length (takenIn h′ most l b) ≤ capacity (h′ .qbits))
+      → length (takenIn h′ most l b) ≤ capacity (h′ .qbits)
       → Shows h′ t (takenIn h′ most l b) × (a ≡ length (takenIn h′ most l b))
   pub tail : SameTail h′ d t
   pub high : a ≤ len + count
@@ -83,7 +83,7 @@ module _ (h : Shape) (len most : ℕ) (s : List ℕ) where
   pub put-at-refused : (k : ℕ) → PutsStep h len (step.Refused k) most s len s
   put-at-refused k = put-none (step.Refused k) (λ f e. let z : _≡_ {A = ℕ} 0 1 = cc in omega arith)
 
--- a buffer that shows l then shows l with f inserted, unless it is past capacity
+-- a buffer that shows l then shows l with f inserted, if there is room or none is needed
 module _ (h : Shape) (len f most : ℕ) (l s t : List ℕ) (z : Insertion) (c : InsertsCore h len f most s z t) (w : Shows h s l) (e : len ≡ length l)
     (room : copies (fingerprint (h .qbits) (h .rbits) f) l < allowed most → len < capacity (h .qbits)) where
   abbrev cut : ℕ
@@ -115,14 +115,14 @@ pub record Taking (h : Shape) (b : List ℕ) (h′ : Shape) (most : ℕ) (whole 
 -- while `left` are left, of a list and a destination that began so
 pub record Takes (h : Shape) (s : List ℕ) (count : ℕ) (h′ : Shape) (d₀ : List ℕ) (len most left held : ℕ) (p : Place) (d : List ℕ) : Type 0 where
   pub right : (l b : List ℕ) → Shows h s b → count ≡ length b → Shows h′ d₀ l → len ≡ length l
-      → (length l < length (takenIn h′ most l b) → length (takenIn h′ most l b) ≤ capacity (h′ .qbits))
-      → (length l ≤ held) × Taking h b h′ most (takenIn h′ most l b) left held p d
+      → length (takenIn h′ most l b) ≤ capacity (h′ .qbits)
+      → Taking h b h′ most (takenIn h′ most l b) left held p d
   pub tail : SameTail h′ d₀ d
   pub high : held + left ≤ len + count
 
 pub takes-first : (h : Shape) (s : List ℕ) (count : ℕ) (h′ : Shape) (d : List ℕ) (len most : ℕ) (p : Place) → First h s count p → Takes h s count h′ d len most count len p d
 takes-first h s count h′ d len most p f = record {
-  right = λ l b w n x e room. (omega arith, record { k = 0; l = l; behind = omega arith; at = f b w n; shows = x; many = e; rest = refl });
+  right = λ l b w n x e room. record { k = 0; l = l; behind = omega arith; at = f b w n; shows = x; many = e; rest = refl };
   tail = refl;
   high = omega arith;
 }
@@ -132,7 +132,7 @@ module _ (h : Shape) (s : List ℕ) (count : ℕ) (h′ : Shape) (d₀ : List �
   unfolding addedUpTo
   takes-last held p d a = record {
     right = λ l b w n x e room.
-        let g = a .right l b w n x e room .1 in
+        let g = a .right l b w n x e room in
         let end : g .k ≡ length b = omega (arith, g .behind) in
         let none : drop (g .k) b ≡ [] = ap (λ k. drop k b) end ∙ drop-length b in
         let same : g .l ≡ takenIn h′ most l b = ap (takenIn h′ most (g .l)) (sym none) ∙ g .rest in
@@ -145,14 +145,14 @@ module _ (h : Shape) (s : List ℕ) (count : ℕ) (h′ : Shape) (d₀ : List �
     pub takes-next : 0 < left → Takes h s count h′ d₀ len most left held p d → Takes h s count h′ d₀ len most (left - 1) held′ (st .place) t
     unfolding addedUpTo
     takes-next some a = record {
-      right = λ l b w n x e room. next l b w room (a .right l b w n x e room .0) (a .right l b w n x e room .1);
+      right = λ l b w n x e room. next l b w room (a .right l b w n x e room);
       tail = puts .tail ∙ a .tail;
       high = omega (arith, puts .high, a .high);
     }
       where
-        next : (l b : List ℕ) → Shows h s b → (length l < length (takenIn h′ most l b) → length (takenIn h′ most l b) ≤ capacity (h′ .qbits)) → length l ≤ held
-            → Taking h b h′ most (takenIn h′ most l b) left held p d → (length l ≤ held′) × Taking h b h′ most (takenIn h′ most l b) (left - 1) held′ (st .place) t
-        next l b w room low g =
+        next : (l b : List ℕ) → Shows h s b → length (takenIn h′ most l b) ≤ capacity (h′ .qbits)
+            → Taking h b h′ most (takenIn h′ most l b) left held p d → Taking h b h′ most (takenIn h′ most l b) (left - 1) held′ (st .place) t
+        next l b w room g =
             let C = allowed most in
             let lt : g .k < length b = omega (arith, g .behind) in
             let f = getD b (g .k) 0 in
@@ -161,20 +161,16 @@ module _ (h : Shape) (s : List ℕ) (count : ℕ) (h′ : Shape) (d₀ : List �
             let pt = puts .right f (ap (λ (z : Stepped). z .step) is) in
             let on : takenIn h′ most (upTo C c (g .l)) (drop (suc (g .k)) b) ≡ takenIn h′ most l b = ap (takenIn h′ most (g .l)) (sym (drop-cons b (g .k) 0 lt)) ∙ g .rest in
             let up : length (upTo C c (g .l)) ≤ length (takenIn h′ most l b) = omega (arith, up-to-grows C (upTo C c (g .l)) (map (fingerprint (h′ .qbits) (h′ .rbits)) (drop (suc (g .k)) b)), ap length on) in
-            let grows : length (g .l) ≤ length (upTo C c (g .l)) =
-            up-to-by (λ (z : List ℕ). length (g .l) ≤ length z) C c (g .l) (λ _. omega arith) (λ _. omega (arith, more-length c (g .l))) in
             let free : copies c (g .l) < C → held < capacity (h′ .qbits) = λ y.
             let one = up-to-more C c (g .l) y in
-            omega (arith, room (omega (arith, up, ap length one, more-length c (g .l), g .many)), up, ap length one, more-length c (g .l), g .many) in
-            let shown = put-shows h′ held f most (g .l) d t (pt .answer) (pt .core) (g .shows) (g .many) free in (
-              omega (arith, pt .is, shown .1, grows, g .many),
-              record {
-                k = suc (g .k);
-                l = upTo C c (g .l);
-                behind = omega (arith, g .behind);
-                at = ap (λ (z : Stepped). z .place) is;
-                shows = shown .0;
-                many = pt .is ∙ shown .1;
-                rest = on;
-              },
-            )
+            omega (arith, up, ap length one, more-length c (g .l), g .many) in
+            let shown = put-shows h′ held f most (g .l) d t (pt .answer) (pt .core) (g .shows) (g .many) free in
+            record {
+              k = suc (g .k);
+              l = upTo C c (g .l);
+              behind = omega (arith, g .behind);
+              at = ap (λ (z : Stepped). z .place) is;
+              shows = shown .0;
+              many = pt .is ∙ shown .1;
+              rest = on;
+            }

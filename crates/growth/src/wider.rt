@@ -1,23 +1,11 @@
 // Number 7 of a merge whose other side is wider.
+ghost use Prim.Native.Nat.{_≤_};
 ghost use lib.ListN.{length};
-ghost use Rattle.theory.specs.Shape.{Widths};
+ghost use Rattle.theory.specs.Shape.{capacity};
 ghost use Rattle.layout.specs.Whole.{Whole};
-ghost use Rattle.growth.specs.WiderDue.{Excess, WiderDue};
+ghost use Rattle.growth.specs.WiderDue.{WiderDue};
 use crate::adding::count_added;
 use layout::shape::Shape;
-
-// The least number of added copies that passes capacity: one, if the filter is past it already.
-fn excess(shape: Shape, len: u64) -> u64
-    requires { ⌜ Widths (shape .qbits) (shape .rbits) ⌝ }
-    ensures { λ r. ⌜ Excess shape len r ⌝ }
-{
-    let capacity = shape.capacity();
-    if capacity < len {
-        1
-    } else {
-        capacity - len + 1
-    }
-}
 
 // 7 if an added copy would pass capacity, else 0: nothing is counted where all of b fit, and no more than what passes.
 pub fn wider_due(
@@ -29,10 +17,10 @@ pub fn wider_due(
     b_len: u64,
     keep: u64,
 ) -> u8
-    requires { ⌜ (Whole «a_shape» (length (now a))) × (Whole «b_shape» (length (now b))) ⌝ }
+    requires { ⌜ (Whole «a_shape» (length (now a))) × (Whole «b_shape» (length (now b))) × («a_len» ≤ capacity («a_shape» .qbits)) ⌝ }
     ensures { λ r. ⌜ WiderDue «a_shape» (now (a .entry)) «a_len» «b_shape» (now (b .entry)) «b_len» keep r ⌝ }
 {
-    let enough = excess(a_shape, a_len);
+    let enough = a_shape.capacity() - a_len + 1;
     if b_len < enough {
         return 0;
     }

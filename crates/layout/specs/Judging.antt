@@ -1,11 +1,11 @@
 -- What follows of a verdict: the check's answer is one, and it is what a checked call needs. Assumes nothing.
-use Prim.Native.Nat.{ℕ, _+_, _<_}
-use mathlib.Core.Path.{_≡_, sym, subst}
+use Prim.Native.Nat.{ℕ, _+_, _≤_, _<_}
+use mathlib.Core.Path.{_≡_, sym, ap, subst}
 use mathlib.Core.Logic.{inl, inr}
 use mathlib.Core.List.{List}
 use native.Mathlib.Omega.{arith}
 use lib.ListN.{length}
-use Rattle.theory.specs.Shape.{blocks}
+use Rattle.theory.specs.Shape.{capacity, blocks}
 use Rattle.theory.specs.number.Bytes.{Bytes}
 use Rattle.theory.specs.check.Step.{Cursor, begin, Answer}
 use Rattle.theory.specs.check.Buffer.{stepsOn}
@@ -15,12 +15,25 @@ use Rattle.layout.specs.declared.numbers.Numbers.{Numbers}
 use Rattle.layout.specs.declared.check.Verdict.{Verdict}
 use Rattle.layout.specs.declared.check.Verdict.the-variants.{Sound, Refused}
 use Rattle.layout.specs.Whole.{Whole}
-use Rattle.layout.specs.Records.{shapeOf, lowestDue, SoundOf, HoldsOf, CheckedOn, CheckedBoth, QuickOn}
+use Rattle.layout.specs.Records.{shapeOf, lowestDue, SoundOf, HoldsOf, Within, Keeps, CheckedOn, CheckedBoth, QuickOn}
 use Rattle.layout.specs.Verdicts.{Judged, JudgedBoth, Answered}
 
 -- where none of 1 to 5 is due: what that says of each number
 pub clear-of : (n : Numbers) (s : List ℕ) → lowestDue n s ≡ 0 → Clear (n .qbits) (n .rbits) (n .len) (n .«max_qbits») (length s)
 clear-of n s e = none-due (n .qbits) (n .rbits) (n .len) (n .«max_qbits») (length s) e
+
+-- then len does not pass capacity: of a sound filter, of a record that keeps to one, of the list held
+pub clear-within : (n : Numbers) (s : List ℕ) → lowestDue n s ≡ 0 → Within n
+clear-within n s e = clear-of n s e .room
+
+pub sound-within : (n : Numbers) (s : List ℕ) → SoundOf n s → Within n
+sound-within n s y = clear-within n s (y .none)
+
+pub keeps-within : (n n′ : Numbers) → Keeps n n′ → Within n′
+keeps-within n n′ k = subst (λ q. n′ .len ≤ capacity q) (sym (ap (λ (x : Numbers). x .qbits) (k .rest))) (k .within)
+
+pub held-within : (n : Numbers) (s l : List ℕ) → lowestDue n s ≡ 0 → HoldsOf n s l → length l ≤ capacity (n .qbits)
+held-within n s l e h = omega (arith, clear-within n s e, h .many)
 
 -- what the cursor says after two rounds from the beginning is the verdict
 module _ (n : Numbers) (s : List ℕ) (b : Bytes s) (e : lowestDue n s ≡ 0) (k : ℕ) (c₀ c : Cursor)

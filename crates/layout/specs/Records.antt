@@ -1,13 +1,13 @@
 -- All that is said of a filter's record: its numbers, its shape, the record at other widths or with another len, what is due of it and what it holds,
 -- and the forms of the calls on it.
-use Prim.Native.Nat.{ℕ, _+_, _<_}
+use Prim.Native.Nat.{ℕ, _+_, _≤_, _<_}
 use mathlib.Core.Path.{_≡_}
 use mathlib.Core.List.{List}
 use lib.ListN.{length}
 use Rattle.theory.specs.Answer.{Answer, gives, refuses}
 use Rattle.theory.specs.Image.{image}
 use Rattle.theory.specs.Refusal.{due}
-use Rattle.theory.specs.Shape.{fingerprint}
+use Rattle.theory.specs.Shape.{capacity, fingerprint}
 use Rattle.theory.specs.Sound.{Sound, Holds, Checked, Quick}
 use Rattle.layout.specs.declared.numbers.Numbers.{Numbers}
 use Rattle.layout.specs.declared.shape.Shape.{Shape}
@@ -42,6 +42,15 @@ SoundOf n s = Sound (n .qbits) (n .rbits) (n .len) (n .«max_qbits») s
 -- the buffer s is the image of l, a holding of len fingerprints
 abbrev pub HoldsOf : Numbers → List ℕ → List ℕ → Type 0
 HoldsOf n s l = Holds (n .qbits) (n .rbits) (n .len) s l
+
+-- len is at most capacity
+abbrev pub Within : Numbers → Type 0
+Within n = n .len ≤ capacity (n .qbits)
+
+-- n′ is n but for len, which is at most the capacity of n
+pub record Keeps (n n′ : Numbers) : Type 0 where
+  pub rest : n′ ≡ withLen n (n′ .len)
+  pub within : n′ .len ≤ capacity (n .qbits)
 
 -- the fingerprint that a hash has in a filter
 abbrev pub fingerprintOf : Numbers → ℕ → ℕ

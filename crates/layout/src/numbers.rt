@@ -78,7 +78,7 @@ pub fn max_due(shape: Shape, max_qbits: u8) -> u8
     0
 }
 
-// The lowest of numbers 2 to 5 that is due, or 0.
+// The lowest of numbers 2 to 5 that is due, or 0. Above capacity, fewer slots are free than a twentieth of all, rounded down: told without a division.
 fn due_of(shape: Shape, size: usize, len: u64, max_qbits: u8) -> u8
     requires { ⌜ Widths (shape .qbits) (shape .rbits) ⌝ }
     ensures { λ r. ⌜ r ≡ dueOf (shape .qbits) (shape .rbits) len «max_qbits» size ⌝ }
@@ -86,13 +86,14 @@ fn due_of(shape: Shape, size: usize, len: u64, max_qbits: u8) -> u8
     if size != shape.buffer_len() {
         return 2;
     }
-    if shape.slots() < len {
+    let slots = shape.slots();
+    if slots < len {
         return 3;
     }
     if 0 < max_due(shape, max_qbits) {
         return 4;
     }
-    if len == shape.slots() {
+    if 20 * (slots - len + 1) <= slots {
         return 5;
     }
     0

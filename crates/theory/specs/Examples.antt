@@ -6,14 +6,14 @@ use mathlib.Core.Path.{_≡_, refl, sym, ap, _∙_}
 use mathlib.Core.List.{List, [], _∷_, _++_}
 use native.Mathlib.Omega.{arith}
 use native.Mathlib.Decide.{decLe, decLt, ℕ-discrete}
-use lib.ListN.{getD, take, replicate, set}
+use lib.ListN.{length, getD, take, replicate, set}
 use Rattle.theory.specs.tools.Choose.{choose}
 use Rattle.theory.specs.tools.Total.{total}
 use Rattle.theory.specs.number.Bytes.{le, toBytes}
 use Rattle.theory.specs.number.Count.{rank}
 use Rattle.theory.specs.number.Field.{field}
 use Rattle.theory.specs.number.Packed.{packed}
-use Rattle.theory.specs.Shape.{slots, capacity, blocks, bytes}
+use Rattle.theory.specs.Shape.{slots, capacity, blocks, bytes, Widths}
 use Rattle.theory.specs.Holding.{Holding, Ascending, Least, Under, run, fewer}
 use Rattle.theory.specs.Image.{image, blocksOf, blockOf, viewsOf, cell, behind, start, carry, walk, occ, last, restAt, many, runAt}
 use Rattle.theory.specs.Planning.{widthFrom, neededQbits}
@@ -21,7 +21,9 @@ use Rattle.theory.specs.Refusal.{orElse, widthsDue, dueOf, sizeDue, lenD
 use Rattle.theory.specs.Select.{Position, place, none, Selects}
 use Rattle.theory.specs.Text.{ascii, digit, hex, decimalIn, decimal, headline, line, lines}
 use Rattle.theory.specs.Report.{lenOf, qbitsOf, rbitsOf, maxOf, bufferOf, markDue, maxQbits, limitDue, headerDue, numberDue, refused, sound, answer, reportOf}
-use Rattle.theory.specs.list.OneRun.{many-copies}
+use Rattle.theory.specs.Sound.{Sound}
+use Rattle.theory.specs.refusals.Demands.{a-filter}
+use Rattle.theory.specs.list.OneRun.{copies-holding, many-copies}
 use Rattle.theory.specs.program.Files.{fileOf, list-file}
 
 -- a byte's place and value
@@ -42,6 +44,8 @@ pub data Example : Type 0 where
   imageOf : ℕ → ℕ → List ℕ → List Byte → Example
   -- the offset bytes of all its blocks
   offsetsOf : ℕ → ℕ → List ℕ → List ℕ → Example
+  -- the filter of qbits and rbits, without max_qbits, that holds these fingerprints is sound
+  soundWith : ℕ → ℕ → List ℕ → Example
   -- what the check program writes, whole, for an input
   prints : List ℕ → String → Example
 
@@ -63,6 +67,7 @@ holds (bytesOf q r is) = bytes q r ≡ is
 holds (selectOf x n is) = Selects x n is
 holds (imageOf q r l is) = image q r l ≡ filled (bytes q r) is
 holds (offsetsOf q r l is) = offsetBytes (17 + 8 * r) (image q r l) (blocks q) 0 ≡ is
+holds (soundWith q r l) = Sound q r (length l) 0 (image q r l)
 holds (prints s is) = reportOf s ≡ ascii is
 
 -- all of them hold
@@ -103,6 +108,7 @@ table =
     ∷ imageOf 6 8 (replicate 3 0x3f07) (byte 0 0x02 ∷ byte 8 0x80 ∷ byte 9 0x02 ∷ byte 17 0x07 ∷ byte 18 0x07 ∷ byte 80 0x07 ∷ [])
     ∷ offsetsOf 9 8 (replicate 400 0x07) (0 ∷ 255 ∷ 255 ∷ 208 ∷ 144 ∷ 80 ∷ 16 ∷ 0 ∷ [])
     ∷ offsetsOf 9 8 (fewer 0x07 (replicate 400 0x07)) (0 ∷ 255 ∷ 255 ∷ 207 ∷ 143 ∷ 79 ∷ 15 ∷ 0 ∷ [])
+    ∷ soundWith 6 8 (replicate 61 0x07)
     ∷ prints [] "refused 13\n"
     ∷ prints (take 12 file) "refused 13\n"
     ∷ prints (set file 1 0x47) "refused 13\n"
@@ -113,8 +119,11 @@ table =
     ∷ prints (take 101 file) "refused 2\n"
     ∷ prints (file ++ (0 ∷ [])) "refused 2\n"
     ∷ prints (set file 2 65) "refused 3\n"
+    ∷ prints (set (set file 2 65) 12 5) "refused 3\n"
     ∷ prints (set (set file 2 64) 12 5) "refused 4\n"
     ∷ prints (set file 2 64) "refused 5\n"
+    ∷ prints (set file 2 63) "refused 5\n"
+    ∷ prints (set file 2 62) "refused 5\n"
     ∷ []
 
 -- ---- the rows that need more than computation
@@ -126,11 +135,18 @@ holding : Holding 64 256 held
 unfolding held Ascending Least Under
 holding = record { ascending = omega arith; under = omega arith; fewer = omega arith }
 
+widths : Widths 6 8
+widths = record { low = omega arith; high = omega arith; some = omega arith; sum = omega arith }
+
 file-printed : reportOf file ≡ sound 3 held
-unfolding file held slots maxQbits fileOf toBytes
+unfolding file held slots capacity maxQbits fileOf toBytes
 file-printed =
     ap (λ b. reportOf (fileOf 3 6 8 0 b)) (sym held-image)
-    ∙ list-file 6 8 held (omega arith) (record { low = omega arith; high = omega arith; some = omega arith; sum = omega arith }) holding
+    ∙ list-file 6 8 held (omega arith) widths holding (omega arith)
+
+at-capacity : holds (soundWith 6 8 (replicate 61 0x07))
+unfolding holds slots capacity
+at-capacity = a-filter 6 8 (replicate 61 0x07) widths (copies-holding 64 256 0x07 61 (omega arith) (omega arith)) (omega arith)
 
 -- the proof of a row, and of those behind it
 infixr 4 _and_
@@ -161,6 +177,10 @@ examples =
     and (unfold cell behind start carry walk occ last restAt many runAt run packed in refl)
     and rw (many-copies 512 256 0x07 400) (unfold carry walk in refl)
     and rw (many-copies 512 256 0x07 399) (unfold carry walk in refl)
+    and at-capacity
+    and refl
+    and refl
+    and refl
     and refl
     and refl
     and refl

@@ -1,9 +1,9 @@
 -- The table of refusals (docs/RULES.md, "Refusals"): each number, or 0 where it is not due, and the lowest that is due.
 -- The numbers of a filter: len, qbits q, rbits r, max_qbits mx (0 means none); size is the length of its buffer.
 use Prim.Native.Nat.{ℕ, zero, suc, _+_, _-_}
-use native.Mathlib.Decide.{decLt, ℕ-discrete}
+use native.Mathlib.Decide.{decLe, decLt, ℕ-discrete}
 use Rattle.theory.specs.tools.Choose.{choose}
-use Rattle.theory.specs.Shape.{slots, bytes}
+use Rattle.theory.specs.Shape.{slots, capacity, bytes}
 
 -- 1: qbits outside 6 ..= 59, rbits 0, or qbits + rbits > 64
 unfoldable pub widthsDue : ℕ → ℕ → ℕ
@@ -23,9 +23,9 @@ unfoldable pub maxDue : ℕ → ℕ → ℕ → ℕ
 maxDue q r mx =
     choose (ℕ-discrete mx 0) 0 (choose (decLt mx q) 4 (choose (decLt 59 mx) 4 (choose (decLt (q + r - 1) mx) 4 0)))
 
--- 5: len = slots
+-- 5: len above capacity, and not above slots
 unfoldable pub fullDue : ℕ → ℕ → ℕ
-fullDue q len = choose (ℕ-discrete len (slots q)) 5 0
+fullDue q len = choose (decLt (capacity q) len) (choose (decLe len (slots q)) 5 0) 0
 
 -- 12: destination length wrong
 unfoldable pub destinationDue : ℕ → ℕ → ℕ → ℕ

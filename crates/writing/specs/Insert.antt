@@ -47,10 +47,17 @@ pub record InsertsAs (h : Shape) (len f most : ℕ) (l : List ℕ) (s : List ℕ
   pub done : insertDue (capacity (h .qbits)) most f l ≡ 0
       → (insertionSays len a ≡ gives (record { answer = insertAnswer most f l; len = length (inserted most f l) })) × Shows h t (inserted most f l)
 
--- and on any buffer the last eight bytes stay, and what is refused has changed nothing
+-- an insert that adds a copy was below capacity
+abbrev pub Below : Shape → ℕ → Insertion → Type 0
+Below h len (Added m) = len < capacity (h .qbits)
+Below h len (Enough c) = Unit {0}
+Below h len (Refused k) = Unit {0}
+
+-- and on any buffer the last eight bytes stay, what is refused has changed nothing, and a copy is added only below capacity
 pub record InsertsCore (h : Shape) (len hash most : ℕ) (s : List ℕ) (a : Insertion) (t : List ℕ) : Type 0 where
   pub right : (l : List ℕ) → Shows h s l → length l ≡ len → InsertsAs h len (fingerprint (h .qbits) (h .rbits) hash) most l s a t
   pub kept : (k : ℕ) → a ≡ Refused k → t ≡ s
+  pub below : Below h len a
   pub tail : tailAt (h .rbits) (blocks (h .qbits)) (le t) ≡ tailAt (h .rbits) (blocks (h .qbits)) (le s)
 
 -- how the code comes to it
@@ -98,6 +105,7 @@ module _ (h : Shape) (low : 6 ≤ h .qbits) (s : List ℕ) (len hash most x rem 
           done = λ _. (same-answer (asked ∙ sym (enough-answer cap most f l enough)) (sym n ∙ ap length (sym held)), rw held w);
         };
     kept = λ k z. refl;
+    below = tt;
     tail = refl;
   }
 
@@ -111,57 +119,59 @@ module _ (h : Shape) (low : 6 ≤ h .qbits) (s : List ℕ) (len hash most x rem 
           let due = full-due cap most f l (fewer-held l w) (omega arith) in
           record { refused = λ _. (ap refuses (sym due), refl); done = λ z. absurd (omega arith) };
       kept = λ k z. refl;
+      below = tt;
       tail = refl;
     }
 
-    module _ (room-left : len < capacity (h .qbits)) where
-      -- the free slot that the walk found
-      free : (l : List ℕ) (w : Shows h s l) → FirstFree m (counts l) x
-      free l w = first-free m (counts l) (shown-runs h s l w x b .round) x
+    -- the free slot that the walk found
+    free : (l : List ℕ) (w : Shows h s l) → FirstFree m (counts l) x
+    free l w = first-free m (counts l) (shown-runs h s l w x b .round) x
 
-      damaged : ((l : List ℕ) → Shows h s l → ⊥) → InsertsCore h len hash most s (Refused 6) s
-      damaged never = record { right = λ l w n. absurd (never l w); kept = λ k z. refl; tail = refl }
+    damaged : ((l : List ℕ) → Shows h s l → ⊥) → InsertsCore h len hash most s (Refused 6) s
+    damaged never = record { right = λ l w n. absurd (never l w); kept = λ k z. refl; below = tt; tail = refl }
 
-      pub core-missed : FreeFrom m v x Nothing → InsertsCore h len hash most s (Refused 6) s
-      core-missed k = damaged (λ l w. let z : _≡_ {A = ℕ} 0 1 = cc (k .right (counts l) (shown-runs h s l w x b) (w .image .offsets) (free l w)) in omega arith)
+    pub core-missed : FreeFrom m v x Nothing → InsertsCore h len hash most s (Refused 6) s
+    core-missed k = damaged (λ l w. let z : _≡_ {A = ℕ} 0 1 = cc (k .right (counts l) (shown-runs h s l w x b) (w .image .offsets) (free l w)) in omega arith)
 
-      module _ (e : ℕ) (k : FreeFrom m v x (At e)) where
-        at-free : (l : List ℕ) (w : Shows h s l) → e ≡ free l w .at
-        at-free l w = cc (k .right (counts l) (shown-runs h s l w x b) (w .image .offsets) (free l w))
+    module _ (e : ℕ) (k : FreeFrom m v x (At e)) where
+      at-free : (l : List ℕ) (w : Shows h s l) → e ≡ free l w .at
+      at-free l w = cc (k .right (counts l) (shown-runs h s l w x b) (w .image .offsets) (free l w))
 
-        pub core-before : e < p .slot → InsertsCore h len hash most s (Refused 6) s
-        core-before y = damaged (λ l w. omega (arith, at-free l w, run-before m (counts l) x (free l w), sp .right l w .at, place-le rem (run (2 ^ h .rbits) l x), many-at m (2 ^ h .rbits) l x b))
+      pub core-before : e < p .slot → InsertsCore h len hash most s (Refused 6) s
+      core-before y = damaged (λ l w. omega (arith, at-free l w, run-before m (counts l) x (free l w), sp .right l w .at, place-le rem (run (2 ^ h .rbits) l x), many-at m (2 ^ h .rbits) l x b))
 
-        module _ (t : List ℕ) (y : Wrote (h .rbits) m (blocks (h .qbits)) x (p .slot) (p .«bit_slot») e rem (p .bit) (le s) (le t)) where
-          shows : (l : List ℕ) → Shows h s l → length l ≡ len → Shows h t (more f l)
-          shows l w n =
-              let u = fingerprint-lt (h .qbits) (h .rbits) hash in
-              let few : suc (length l) < m = omega (arith, capacity-lt (h .qbits) low) in
-              let a = spot l w in
+      module _ (t : List ℕ) (y : Wrote (h .rbits) m (blocks (h .qbits)) x (p .slot) (p .«bit_slot») e rem (p .bit) (le s) (le t))
+          (room-left : len < capacity (h .qbits)) where
+        shows : (l : List ℕ) → Shows h s l → length l ≡ len → Shows h t (more f l)
+        shows l w n =
+            let u = fingerprint-lt (h .qbits) (h .rbits) hash in
+            let few : suc (length l) < m = omega (arith, capacity-lt (h .qbits) low) in
+            let a = spot l w in
+            record {
+              holding = more-holding m (2 ^ h .rbits) f l (w .holding) u few;
+              image = written-image (h .rbits) m (blocks (h .qbits)) (slots-blocks (h .qbits) low) l f (w .holding) u few (p .slot) (p .«bit_slot») e (p .bit) (a .bit-place) (le s) (le t)
+                  (rw ex at b) (a .at) (a .bit-at) (same-room l w u few) (a .bit-is) (rw (ex, er) at y) (w .image);
+            }
+          where
+            same-room : (l : List ℕ) (w : Shows h s l) (u : f < m * 2 ^ h .rbits) (few : suc (length l) < m) → e ≡ room m (2 ^ h .rbits) (pow-pos (h .rbits)) l f (w .holding) u few .at
+            same-room l w u few =
+                let z = room m (2 ^ h .rbits) (pow-pos (h .rbits)) l f (w .holding) u few in
+                let k′ = rw ex at k in
+                cc (k′ .right (counts l) (shown-runs h s l w x b) (w .image .offsets) z)
+
+        pub core-added : InsertsCore h len hash most s (Added (p .copies)) t
+        core-added = record {
+          right = λ l w n.
+              let few = fewer-held l w in
+              let held = more-held cap most f l few in
               record {
-                holding = more-holding m (2 ^ h .rbits) f l (w .holding) u few;
-                image = written-image (h .rbits) m (blocks (h .qbits)) (slots-blocks (h .qbits) low) l f (w .holding) u few (p .slot) (p .«bit_slot») e (p .bit) (a .bit-place) (le s) (le t)
-                    (rw ex at b) (a .at) (a .bit-at) (same-room l w u few) (a .bit-is) (rw (ex, er) at y) (w .image);
-              }
-            where
-              same-room : (l : List ℕ) (w : Shows h s l) (u : f < m * 2 ^ h .rbits) (few : suc (length l) < m) → e ≡ room m (2 ^ h .rbits) (pow-pos (h .rbits)) l f (w .holding) u few .at
-              same-room l w u few =
-                  let z = room m (2 ^ h .rbits) (pow-pos (h .rbits)) l f (w .holding) u few in
-                  let k′ = rw ex at k in
-                  cc (k′ .right (counts l) (shown-runs h s l w x b) (w .image .offsets) z)
-
-          pub core-added : InsertsCore h len hash most s (Added (p .copies)) t
-          core-added = record {
-            right = λ l w n.
-                let few = fewer-held l w in
-                let held = more-held cap most f l few in
-                record {
-                  refused = λ z. absurd (omega (arith, room-due cap most f l (omega arith)));
-                  done = λ _. (
-                    same-answer (counted-all l w ∙ sym (more-answer cap most f l few)) (omega (arith, ap length held, more-length f l)),
-                    rw held (shows l w n),
-                  );
-                };
-            kept = λ k z. let y : _≡_ {A = ℕ} 0 1 = cc in absurd (omega arith);
-            tail = tail-was (h .rbits) m (blocks (h .qbits)) x (p .slot) (p .«bit_slot») e rem (p .bit) (le s) (le t) (slots-blocks (h .qbits) low) b y;
-          }
+                refused = λ z. absurd (omega (arith, room-due cap most f l (omega arith)));
+                done = λ _. (
+                  same-answer (counted-all l w ∙ sym (more-answer cap most f l few)) (omega (arith, ap length held, more-length f l)),
+                  rw held (shows l w n),
+                );
+              };
+          kept = λ k z. let y : _≡_ {A = ℕ} 0 1 = cc in absurd (omega arith);
+          below = room-left;
+          tail = tail-was (h .rbits) m (blocks (h .qbits)) x (p .slot) (p .«bit_slot») e rem (p .bit) (le s) (le t) (slots-blocks (h .qbits) low) b y;
+        }

@@ -12,7 +12,7 @@ use Rattle.layout.specs.Outcomes.{Settled, alike, apart, leaves-one}
 use Rattle.writing.specs.declared.writers.Inserted.{Inserted}
 use Rattle.writing.specs.declared.writers.Removed.{Removed}
 use Rattle.writing.specs.Says.{insertedSays, inserted-tells, removedSays, removed-tells}
-use Rattle.writing.specs.Writing.{Turns, TurnsOn, TurnsQuick, Inside, InsertLeaves, inserting, removing, Insert, InsertQuick, Remove, RemoveQuick}
+use Rattle.writing.specs.Writing.{Turns, TurnsOn, TurnsQuick, InsertLeaves, RemoveLeaves, inserting, removing, Insert, InsertQuick, Remove, RemoveQuick}
 
 -- ---- a change by a rule: an outcome is the answer, which is told by what it says, and the buffer afterwards
 module _ {E : Type 0} (says : E → Answer Changed) (tells : (a b : E) → says a ≡ says b → a ≡ b) (n : Numbers) (rule : Rule) (s : List ℕ) where
@@ -46,11 +46,11 @@ module _ (n : Numbers) (hash most : ℕ) (s : List ℕ) (a b : Inserted) (t u : 
 
   pub insert-fingerprint-counting-quick-pinned : Settled n s → InsertQuick n hash most s a t → InsertQuick n hash most s b u → (a ≡ b) × (t ≡ u)
   insert-fingerprint-counting-quick-pinned =
-      quick-turn-pinned insertedSays inserted-tells n (inserting n hash most) s a b t u (λ x. InsertLeaves s (x .0) (x .1))
+      quick-turn-pinned insertedSays inserted-tells n (inserting n hash most) s a b t u (λ x. InsertLeaves n s (x .0) (x .1))
 
   -- on every sound buffer, and where a number 1 to 5 is due, quick equals checked
   pub insert-quick-checked : Settled n s → InsertQuick n hash most s a t → Insert n hash most s b u → (a ≡ b) × (t ≡ u)
-  insert-quick-checked = turn-quick-checked insertedSays inserted-tells n (inserting n hash most) s a b t u (λ x. InsertLeaves s (x .0) (x .1))
+  insert-quick-checked = turn-quick-checked insertedSays inserted-tells n (inserting n hash most) s a b t u (λ x. InsertLeaves n s (x .0) (x .1))
 
 -- ---- remove
 module _ (n : Numbers) (hash : ℕ) (s : List ℕ) (a b : Removed) (t u : List ℕ) where
@@ -58,7 +58,7 @@ module _ (n : Numbers) (hash : ℕ) (s : List ℕ) (a b : Removed) (t u : List �
   remove-fingerprint-pinned = turn-pinned (removedSays n) (removed-tells n) n (removing n hash) s a b t u
 
   pub remove-fingerprint-quick-pinned : Settled n s → RemoveQuick n hash s a t → RemoveQuick n hash s b u → (a ≡ b) × (t ≡ u)
-  remove-fingerprint-quick-pinned = quick-turn-pinned (removedSays n) (removed-tells n) n (removing n hash) s a b t u (λ x. Inside s (x .1))
+  remove-fingerprint-quick-pinned = quick-turn-pinned (removedSays n) (removed-tells n) n (removing n hash) s a b t u (λ x. RemoveLeaves n s (x .0) (x .1))
 
   pub remove-quick-checked : Settled n s → RemoveQuick n hash s a t → Remove n hash s b u → (a ≡ b) × (t ≡ u)
-  remove-quick-checked = turn-quick-checked (removedSays n) (removed-tells n) n (removing n hash) s a b t u (λ x. Inside s (x .1))
+  remove-quick-checked = turn-quick-checked (removedSays n) (removed-tells n) n (removing n hash) s a b t u (λ x. RemoveLeaves n s (x .0) (x .1))

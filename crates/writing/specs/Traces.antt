@@ -23,7 +23,7 @@ use Rattle.writing.specs.declared.writers.Removed.{Removed}
 use Rattle.writing.specs.declared.writers.Removed.the-variants.{Gone}
 use Rattle.writing.specs.Says.{removedSays, removed-tells}
 use Rattle.writing.specs.Writing.{Turns, inserting, Insert, Remove}
-use Rattle.writing.specs.Kept.{HoldingOf, other-clear, other-holds, insert-holding}
+use Rattle.writing.specs.Kept.{HoldingWithin, other-clear, other-holds, insert-holding}
 
 -- an insert that adds a copy: it is not refused, and the record afterwards has one fingerprint more
 pub record Adds (n : Numbers) (hash : ℕ) (s : List ℕ) (n′ : Numbers) (t : List ℕ) : Type 0 where
@@ -36,7 +36,7 @@ pub record Adds (n : Numbers) (hash : ℕ) (s : List ℕ) (n′ : Numbers) (t : 
 pub record Grown (n : Numbers) (l : List ℕ) (f : ℕ) (n′ : Numbers) (t : List ℕ) : Type 0 where
   pub numbers : n′ ≡ withLen n (length (more f l))
   pub bytes : t ≡ image (n .qbits) (n .rbits) (more f l)
-  pub holding : HoldingOf n (more f l)
+  pub holding : HoldingWithin n (more f l)
 
 module _ (n : Numbers) (s l : List ℕ) (e : lowestDue n s ≡ 0) (h : HoldsOf n s l) (hash : ℕ) where
   abbrev f : ℕ

@@ -21,7 +21,7 @@ use Rattle.theory.specs.images.Tail.{tail-bytes}
 use Rattle.theory.specs.writing.Removing.{fewer-length}
 use Rattle.theory.specs.list.RuleCases.{absent-answer, held-answer, fewer-absent}
 use Rattle.layout.specs.declared.numbers.Numbers.{Numbers}
-use Rattle.layout.specs.Records.{shapeOf, withLen, lowestDue, HoldsOf, fingerprintOf, CheckedOn, QuickOn, Leaves, Changed, changed}
+use Rattle.layout.specs.Records.{shapeOf, withLen, lowestDue, HoldsOf, Within, Keeps, fingerprintOf, CheckedOn, QuickOn, Leaves, Changed, changed}
 use Rattle.writing.specs.declared.insert.Insertion.{Insertion}
 use Rattle.writing.specs.declared.insert.Insertion.the-variants as core
 use Rattle.writing.specs.declared.writers.Inserted.{Inserted}
@@ -31,10 +31,10 @@ use Rattle.writing.specs.declared.remove.Removal.the-variants as removal
 use Rattle.writing.specs.declared.writers.Removed.{Removed}
 use Rattle.writing.specs.declared.writers.Removed.the-variants as removed
 use Rattle.filter.specs.Asking.{holds-shows}
-use Rattle.layout.specs.Judging.{clear-whole, clear-of}
+use Rattle.layout.specs.Judging.{clear-whole, clear-of, clear-within}
 use Rattle.filter.specs.Lookup.{Shows}
 use Rattle.writing.specs.Says.{insertedSays, removedSays}
-use Rattle.writing.specs.Insert.{CoreAnswer, insertionSays, InsertsCore}
+use Rattle.writing.specs.Insert.{CoreAnswer, insertionSays, Below, InsertsCore}
 use Rattle.writing.specs.Remove.{removalSays, RemovesCore}
 
 -- a change in place by a rule, of a filter that holds l: a number is due, and record and buffer stay; or none is, and answer, len and buffer are the rule's
@@ -64,24 +64,33 @@ pub record Inside (s t : List ℕ) : Type 0 where
   pub size : length t ≡ length s
   pub tail : lastEight t ≡ lastEight s
 
--- and a quick insert that is refused has changed nothing
-abbrev pub InsertLeaves : List ℕ → Inserted → List ℕ → Type 0
-InsertLeaves s a t = Inside s t × ((k : ℕ) → insertedSays a ≡ refuses k → t ≡ s)
+-- and a record that it gives is the one given with a len of at most capacity
+abbrev pub ChangedWithin : Numbers → Answer Changed → Type 0
+ChangedWithin n (gives c) = Keeps n (c .numbers)
+ChangedWithin n (refuses k) = Unit {0}
+
+-- a quick insert does both, and one that is refused has changed nothing
+abbrev pub InsertLeaves : Numbers → List ℕ → Inserted → List ℕ → Type 0
+InsertLeaves n s a t = Inside s t × ((k : ℕ) → insertedSays a ≡ refuses k → t ≡ s) × ChangedWithin n (insertedSays a)
 
 abbrev pub InsertQuick : Numbers → ℕ → ℕ → List ℕ → Inserted → List ℕ → Type 0
-InsertQuick n hash most s a t = TurnsQuick n (inserting n hash most) s (insertedSays a) t (InsertLeaves s a t)
+InsertQuick n hash most s a t = TurnsQuick n (inserting n hash most) s (insertedSays a) t (InsertLeaves n s a t)
 
 -- ---- remove
 abbrev pub Remove : Numbers → ℕ → List ℕ → Removed → List ℕ → Type 0
 Remove n hash s a t = TurnsOn n (removing n hash) s (removedSays n a) t
 
+-- a quick remove does both
+abbrev pub RemoveLeaves : Numbers → List ℕ → Removed → List ℕ → Type 0
+RemoveLeaves n s a t = Inside s t × ChangedWithin n (removedSays n a)
+
 abbrev pub RemoveQuick : Numbers → ℕ → List ℕ → Removed → List ℕ → Type 0
-RemoveQuick n hash s a t = TurnsQuick n (removing n hash) s (removedSays n a) t (Inside s t)
+RemoveQuick n hash s a t = TurnsQuick n (removing n hash) s (removedSays n a) t (RemoveLeaves n s a t)
 
 -- ---- how the code comes to it
 pub record InsertWorked (n : Numbers) (hash most : ℕ) (s : List ℕ) (a : Inserted) (t : List ℕ) : Type 0 where
   pub right : (l : List ℕ) → HoldsOf n s l → Turns n (inserting n hash most) l s (insertedSays a) t
-  pub inside : InsertLeaves s a t
+  pub inside : InsertLeaves n s a t
 
 pub inside-same : (s : List ℕ) → Inside s s
 inside-same s = record { size = refl; tail = refl }
@@ -121,6 +130,11 @@ refused-core n (core.Enough c) k e = let z : _≡_ {A = ℕ} 0 1 = cc in absurd 
 refused-core n (core.Added m) k e = let z : _≡_ {A = ℕ} 0 1 = cc in absurd (omega arith)
 refused-core n (core.Refused j) k e = ap core.Refused (ap number e)
 
+inserted-within : (n : Numbers) → Within n → (a : Insertion) → Below (shapeOf n) (n .len) a → ChangedWithin n (insertedSays (insertedFrom n a))
+inserted-within n w (core.Enough c) below = record { rest = refl; within = w }
+inserted-within n w (core.Added m) below = record { rest = refl; within = omega (arith, below) }
+inserted-within n w (core.Refused k) below = tt
+
 pub insert-worked : (n : Numbers) (hash most : ℕ) (s t : List ℕ) (a : Insertion) → lowestDue n s ≡ 0 → Bytes s → Bytes t → length t ≡ length s
     → InsertsCore (shapeOf n) (n .len) hash most s a t → InsertWorked n hash most s (insertedFrom n a) t
 insert-worked n hash most s t a e bs bt len c = record {
@@ -130,12 +144,12 @@ insert-worked n hash most s t a e bs bt len c = record {
         refused = λ z. (inserted-says n a ∙ ap (recorded n) (w .refused z .0), w .refused z .1);
         done = λ z. (inserted-says n a ∙ ap (recorded n) (w .done z .0), shows-image n s t e bs bt len (c .tail) l (inserted most (fingerprintOf n hash) l) h (w .done z .1));
       };
-  inside = (stays-inside n s t e bs bt len (c .tail), λ k z. c .kept k (refused-core n a k z));
+  inside = (stays-inside n s t e bs bt len (c .tail), (λ k z. c .kept k (refused-core n a k z)), inserted-within n (clear-within n s e) a (c .below));
 }
 
 pub record RemoveWorked (n : Numbers) (hash : ℕ) (s : List ℕ) (a : Removed) (t : List ℕ) : Type 0 where
   pub right : (l : List ℕ) → HoldsOf n s l → Turns n (removing n hash) l s (removedSays n a) t
-  pub inside : Inside s t
+  pub inside : RemoveLeaves n s a t
 
 abbrev pub removedFrom : Numbers → Removal → Removed
 removedFrom n removal.Gone = removed.Gone (withLen n (n .len - 1))
@@ -166,6 +180,11 @@ removed-says n s l h f a e = go (eq-zero-or-pos (copies f l))
         removed-gone n a (e ∙ ap gives (held-answer f l c))
         ∙ told (held-answer f l c) (omega (arith, fewer-length (slots (n .qbits)) (2 ^ n .rbits) (pow-pos (n .rbits)) f l (h .holding) c, h .many))
 
+removed-within : (n : Numbers) → Within n → (a : Removal) → ChangedWithin n (removedSays n (removedFrom n a))
+removed-within n w removal.Gone = record { rest = refl; within = omega (arith, w) }
+removed-within n w removal.Absent = record { rest = refl; within = w }
+removed-within n w removal.Damaged = tt
+
 pub remove-worked : (n : Numbers) (hash : ℕ) (s t : List ℕ) (a : Removal) → lowestDue n s ≡ 0 → Bytes s → Bytes t → length t ≡ length s
     → RemovesCore (shapeOf n) hash s a t → RemoveWorked n hash s (removedFrom n a) t
 remove-worked n hash s t a e bs bt len c = record {
@@ -175,5 +194,5 @@ remove-worked n hash s t a e bs bt len c = record {
         refused = λ z. absurd (omega arith);
         done = λ z. (removed-says n s l h (fingerprintOf n hash) a (w .says), shows-image n s t e bs bt len (c .tail) l (fewer (fingerprintOf n hash) l) h (w .shows));
       };
-  inside = stays-inside n s t e bs bt len (c .tail);
+  inside = (stays-inside n s t e bs bt len (c .tail), removed-within n (clear-within n s e) a);
 }

@@ -13,7 +13,7 @@ use Rattle.theory.specs.Image.{Views, image, viewsOf, blockOf, blocksOf,
 use Rattle.theory.specs.images.LaidOut.{cell-all}
 use Rattle.theory.specs.images.ImageBytes.{image-length}
 use Rattle.theory.specs.images.Sizes.{slots-pos}
-use Rattle.theory.specs.refusals.ByNumber.{clear-none}
+use Rattle.theory.specs.refusals.ByNumber.{clear, clear-none}
 use Rattle.theory.specs.Refusal.{maxDue}
 use Rattle.theory.specs.Sound.{Holds, Sound}
 
@@ -89,7 +89,7 @@ holds-empty q r = record { holding = record { ascending = tt; under = tt; fewer 
 
 pub sound-empty : (q r mx : ℕ) → Widths q r → maxDue q r mx ≡ 0 → Sound q r 0 mx (image q r [])
 sound-empty q r mx w h = record {
-  none = clear-none q r 0 mx _ (record { widths = w; size-is = image-length q r []; fewer = slots-pos q; max-none = h });
+  none = clear-none q r 0 mx _ (clear w (image-length q r []) (omega arith) h);
   held = [];
   holds = holds-empty q r;
 }

@@ -67,6 +67,15 @@ pub capacity-lt : (q : ℕ) → 6 ≤ q → capacity q < slots q
 unfolding capacity
 capacity-lt q h = omega (arith, slots-low q h)
 
+-- what is above capacity, told by the free slots, without a division
+pub past-capacity : (q len : ℕ) → len ≤ slots q → 20 * (slots q - len + 1) ≤ slots q → capacity q < len
+unfolding capacity
+past-capacity q len few h = omega arith
+
+pub within-capacity : (q len : ℕ) → len ≤ slots q → slots q < 20 * (slots q - len + 1) → len ≤ capacity q
+unfolding capacity
+within-capacity q len few h = omega arith
+
 -- the next width has room for all
 pub next-room : (q len : ℕ) → len < slots q → len ≤ capacity (q + 1)
 unfolding capacity slots

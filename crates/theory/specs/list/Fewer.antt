@@ -1,10 +1,11 @@
 -- One copy fewer, and one copy more after it. Assumes nothing.
-use Prim.Native.Nat.{ℕ, suc, _<_}
+use Prim.Native.Nat.{ℕ, suc, _≤_, _<_}
 use mathlib.Core.Path.{_≡_, refl, sym, _∙_}
 use mathlib.Core.Logic.{_≢_}
 use mathlib.Core.List.{List, [], _∷_}
 use native.Mathlib.Omega.{arith}
 use native.Mathlib.Decide.{ℕ-discrete}
+use lib.ListN.{length}
 use Rattle.theory.specs.tools.Choose.{choose-by, choose-no, choose, choose-yes}
 use Rattle.theory.specs.Holding.{copies, more, fewer, Ascending, Least}
 use Rattle.theory.specs.list.Copies.{copies-more-here, copies-tell, copies-more-other, copies-other, copies-nil, copies-eq}
@@ -20,6 +21,11 @@ pub fewer-ascending : (f : ℕ) (l : List ℕ) → Ascending l → Ascending (fe
 unfolding Ascending fewer
 fewer-ascending f [] a = tt
 fewer-ascending f (g ∷ l) a = choose-by Ascending (ℕ-discrete g f) (λ _. a .1) (λ _. (fewer-least g f l (a .0), fewer-ascending f l (a .1)))
+
+pub fewer-most : (f : ℕ) (l : List ℕ) → length (fewer f l) ≤ length l
+unfolding fewer
+fewer-most f [] = omega arith
+fewer-most f (g ∷ l) = choose-by (λ (z : List ℕ). length z ≤ suc (length l)) (ℕ-discrete g f) (λ _. omega arith) (λ _. omega (arith, fewer-most f l))
 
 pub fewer-copies-here : (f : ℕ) (l : List ℕ) → 0 < copies f l → suc (copies f (fewer f l)) ≡ copies f l
 unfolding fewer

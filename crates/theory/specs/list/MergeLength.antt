@@ -1,5 +1,5 @@
 -- How long the result of a merge is: where 7 is due, and that what is wanted is enough. Assumes nothing.
-use Prim.Native.Nat.{ℕ, zero, suc, _+_, _-_, _≤_, _<_, max}
+use Prim.Native.Nat.{ℕ, zero, suc, _+_, _≤_, _<_}
 use mathlib.Core.Path.{_≡_, refl}
 use mathlib.Core.Logic.{_≢_}
 use mathlib.Core.List.{List, [], map}
@@ -7,32 +7,30 @@ use native.Mathlib.Omega.{arith}
 use native.Mathlib.Decide.{decLt}
 use lib.ListN.{length, length-map}
 use Rattle.theory.specs.tools.Choose.{choose-by}
-use Rattle.theory.specs.Shape.{slots, capacity, fingerprint}
+use Rattle.theory.specs.Shape.{capacity, fingerprint}
 use Rattle.theory.specs.Joining.{joined, taken, takenDue, addedOnce, wanted}
-use Rattle.theory.specs.images.Sizes.{capacity-lt}
 use Rattle.theory.specs.list.Adding.{added-length, once-length}
 
 -- ---- other wider
--- due exactly if so many are added
-pub few-due : (q : ℕ) (a l : List ℕ) → length l < length a + max 1 (suc (capacity q) - length a) → 0 ≡ takenDue q a l
-unfolding takenDue
-few-due q a l h =
-    choose-by (λ z. 0 ≡ z) (decLt (length a) (length l)) (λ u. choose-by (λ z. 0 ≡ z) (decLt (capacity q) (length l)) (λ v. absurd (omega arith)) (λ _. refl)) (λ _. refl)
+-- with a self within capacity it is due exactly if the result passes it
+module _ (q : ℕ) (a l : List ℕ) where
+  pub few-due : length l ≤ capacity q → 0 ≡ takenDue q a l
+  unfolding takenDue
+  few-due h =
+      choose-by (λ z. 0 ≡ z) (decLt (length a) (length l)) (λ _. choose-by (λ z. 0 ≡ z) (decLt (capacity q) (length l)) (λ v. absurd (omega arith)) (λ _. refl)) (λ _. refl)
 
-pub past-due : (q : ℕ) (a l : List ℕ) → length a + max 1 (suc (capacity q) - length a) ≤ length l → 7 ≡ takenDue q a l
-unfolding takenDue
-past-due q a l h =
-    choose-by (λ z. 7 ≡ z) (decLt (length a) (length l)) (λ u. choose-by (λ z. 7 ≡ z) (decLt (capacity q) (length l)) (λ _. refl) (λ v. absurd (omega arith))) (λ u. absurd (omega arith))
+  pub past-due : length a ≤ capacity q → capacity q < length l → 7 ≡ takenDue q a l
+  unfolding takenDue
+  past-due few h =
+      choose-by (λ z. 7 ≡ z) (decLt (length a) (length l)) (λ _. choose-by (λ z. 7 ≡ z) (decLt (capacity q) (length l)) (λ _. refl) (λ v. absurd (omega arith))) (λ u. absurd (omega arith))
 
--- where it is not due, a slot stays empty
-pub none-few : (q : ℕ) → 6 ≤ q → (a l : List ℕ) → takenDue q a l ≡ 0 → length a < slots q → length l < slots q
-unfolding takenDue
-none-few q low a l e few = go (decLt (length a) (length l)) (decLt (capacity q) (length l))
-  where
-    go : Dec (length a < length l) → Dec (capacity q < length l) → length l < slots q
-    go (no y) z = omega arith
-    go (yes y) (no z) = omega (arith, capacity-lt q low)
-    go (yes y) (yes z) = absurd (omega (arith, past-due q a l (omega arith)))
+  -- where it is not due, the result fits
+  pub none-few : takenDue q a l ≡ 0 → length a ≤ capacity q → length l ≤ capacity q
+  none-few e few = go (decLt (capacity q) (length l))
+    where
+      go : Dec (capacity q < length l) → length l ≤ capacity q
+      go (yes z) = absurd (omega (arith, past-due few z))
+      go (no z) = omega arith
 
 pub taken-most : (keep q r : ℕ) (a b : List ℕ) → length (taken keep q r a b) ≤ length a + length b
 unfolding taken

@@ -1,5 +1,5 @@
--- What insert, remove and merge leave is a holding again. Assumes nothing.
-use Prim.Native.Nat.{ℕ, zero, suc, _+_, _*_, _^_, _<_}
+-- What insert, remove and merge leave is a holding again, and what insert and remove leave does not pass capacity. Assumes nothing.
+use Prim.Native.Nat.{ℕ, zero, suc, _+_, _*_, _^_, _≤_, _<_}
 use mathlib.Core.Path.{_≡_}
 use mathlib.Core.Logic.{_⊎_, inl, inr}
 use mathlib.Core.List.{List, [], _∷_, map}
@@ -13,7 +13,8 @@ use Rattle.theory.specs.Changing.{insertDue, inserted}
 use Rattle.theory.specs.Joining.{added, addedOnce, joined, taken}
 use Rattle.theory.specs.list.Adding.{added-keeps, once-keeps}
 use Rattle.theory.specs.list.RuleCases.{due-none, fewer-absent}
-use Rattle.theory.specs.list.More.{more-ascending, more-under}
+use Rattle.theory.specs.list.Fewer.{fewer-most}
+use Rattle.theory.specs.list.More.{more-ascending, more-under, more-length}
 use Rattle.theory.specs.writing.OneMore.{more-holding}
 use Rattle.theory.specs.writing.Removing.{fewer-holding}
 
@@ -32,6 +33,18 @@ module _ (m R f : ℕ) (l : List ℕ) (h : Holding m R l) where
       go : (copies f l ≡ 0) ⊎ (0 < copies f l) → Holding m R (fewer f l)
       go (inl z) = rw (fewer-absent f l z) h
       go (inr z) = fewer-holding m R pos f l h z
+
+-- ---- neither passes capacity
+module _ (capacity f : ℕ) (l : List ℕ) (room : length l ≤ capacity) where
+  pub inserted-room : (most : ℕ) → insertDue capacity most f l ≡ 0 → length (inserted most f l) ≤ capacity
+  inserted-room most e = go (due-none capacity most f l e)
+    where
+      go : (inserted most f l ≡ l) ⊎ ((inserted most f l ≡ more f l) × (length l < capacity)) → length (inserted most f l) ≤ capacity
+      go (inl z) = rw z room
+      go (inr z) = rw (z .0) (omega (arith, more-length f l, z .1))
+
+  pub removed-room : length (fewer f l) ≤ capacity
+  removed-room = omega (arith, fewer-most f l)
 
 -- ---- merge
 -- all of b added to a, or absent ones once each: ascending, and of the width that both have

@@ -1,4 +1,4 @@
--- Every list with qbits up to the limit has a file, and for that file the program writes the list: an impostor that always refuses fails.
+-- Every list of at most capacity with qbits up to the limit has a file, and for that file the program writes the list: an impostor that always refuses fails.
 -- Assumes nothing.
 use Prim.Native.Nat.{ℕ, _^_, _≤_, _<_}
 use mathlib.Core.Path.{_≡_, refl, _∙_}
@@ -7,7 +7,7 @@ use native.Mathlib.Omega.{arith}
 use lib.ListN.{length}
 use lib.Pow.{pow-mono}
 use Rattle.theory.specs.number.Bytes.{toBytes, le-toBytes}
-use Rattle.theory.specs.Shape.{slots, Widths}
+use Rattle.theory.specs.Shape.{slots, capacity, Widths}
 use Rattle.theory.specs.Holding.{Holding}
 use Rattle.theory.specs.Image.{image}
 use Rattle.theory.specs.Refusal.{due}
@@ -54,8 +54,8 @@ module _ (len q r mx : ℕ) (b : List ℕ) where
       let c = rw (qbits-back, rbits-back, len-back word, max-back, buffer-back) at (report-checked (fileOf len q r mx b) none) in
       c .sound e l h
 
--- every holding
-pub list-file : (q r : ℕ) (l : List ℕ) → q ≤ maxQbits → Widths q r → Holding (slots q) (2 ^ r) l → reportOf (fileOf (length l) q r 0 (image q r l)) ≡ sound (length l) l
+-- every holding of at most capacity
+pub list-file : (q r : ℕ) (l : List ℕ) → q ≤ maxQbits → Widths q r → Holding (slots q) (2 ^ r) l → length l ≤ capacity q → reportOf (fileOf (length l) q r 0 (image q r l)) ≡ sound (length l) l
 unfolding slots maxQbits
-list-file q r l m w h =
-    sound-file (length l) q r 0 (image q r l) (omega (arith, h .fewer, pow-mono m)) m w (a-filter q r l w h .none) l (record { holding = h; many = refl; bytes = refl })
+list-file q r l m w h room =
+    sound-file (length l) q r 0 (image q r l) (omega (arith, h .fewer, pow-mono m)) m w (a-filter q r l w h room .none) l (record { holding = h; many = refl; bytes = refl })

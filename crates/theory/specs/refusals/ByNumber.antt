@@ -5,7 +5,8 @@ use mathlib.Core.Logic.{_⊎_, inl, inr, _≢_}
 use native.Mathlib.Omega.{arith}
 use native.Mathlib.Decide.{decLe, decLt, ℕ-discrete}
 use Rattle.theory.specs.tools.Choose.{choose, choose-no, choose-by, choose-yes}
-use Rattle.theory.specs.Shape.{Widths, bytes, slots}
+use Rattle.theory.specs.Shape.{Widths, bytes, slots, capacity}
+use Rattle.theory.specs.images.Sizes.{capacity-lt}
 use Rattle.theory.specs.Refusal.{orElse, maxDue, fullDue, sizeDue, widthsDue, lenDue, due, dueOf}
 
 pub else-none : (a b : ℕ) → a ≡ 0 → orElse a b ≡ b
@@ -71,20 +72,25 @@ pub len-due : (q len : ℕ) → slots q < len → lenDue q len ≡ 3
 unfolding lenDue
 len-due q len h = choose-yes (decLt (slots q) len) 3 0 h
 
-pub full-none : (q len : ℕ) → len ≢ slots q → fullDue q len ≡ 0
+pub full-none : (q len : ℕ) → len ≤ capacity q → fullDue q len ≡ 0
 unfolding fullDue
-full-none q len h = choose-no (ℕ-discrete len (slots q)) 5 0 h
+full-none q len h = choose-no (decLt (capacity q) len) _ 0 (λ l. omega arith)
 
-pub full-due : (q len : ℕ) → len ≡ slots q → fullDue q len ≡ 5
+pub full-due : (q len : ℕ) → capacity q < len → len ≤ slots q → fullDue q len ≡ 5
 unfolding fullDue
-full-due q len h = choose-yes (ℕ-discrete len (slots q)) 5 0 h
+full-due q len h b = choose-yes (decLt (capacity q) len) _ 0 h ∙ choose-yes (decLe len (slots q)) 5 0 b
 
--- what it means that none of 1 to 5 is due
+-- what it means that none of 1 to 5 is due: len is at most capacity, and so a slot is empty
 pub record Clear (q r len mx size : ℕ) : Type 0 where
   pub widths : Widths q r
   pub size-is : size ≡ bytes q r
+  pub room : len ≤ capacity q
   pub fewer : len < slots q
   pub max-none : maxDue q r mx ≡ 0
+
+-- that a slot is empty follows from the rest
+pub clear : {q r len mx size : ℕ} → Widths q r → size ≡ bytes q r → len ≤ capacity q → maxDue q r mx ≡ 0 → Clear q r len mx size
+clear {q} w s h m = record { widths = w; size-is = s; room = h; fewer = omega (arith, capacity-lt q (w .low)); max-none = m }
 
 pub else-first : (a b : ℕ) → orElse a b ≡ 0 → a ≡ 0
 else-first a b e = go (ℕ-discrete a 0)
@@ -102,24 +108,20 @@ none-due q r len mx size e =
     let e₂ = else-second (widthsDue q r) _ e in
     let e₃ = else-second (sizeDue q r size) _ e₂ in
     let e₄ = else-second (lenDue q len) _ e₃ in
-    record {
-      widths = none-widths q r (else-first (widthsDue q r) _ e);
-      size-is = none-size q r size (else-first (sizeDue q r size) _ e₂);
-      fewer = few (decLt (slots q) len) (ℕ-discrete len (slots q)) (else-first (lenDue q len) _ e₃) (else-second (maxDue q r mx) _ e₄);
-      max-none = else-first (maxDue q r mx) _ e₄;
-    }
+    clear (none-widths q r (else-first (widthsDue q r) _ e)) (none-size q r size (else-first (sizeDue q r size) _ e₂))
+    (fits (decLt (slots q) len) (decLt (capacity q) len) (else-first (lenDue q len) _ e₃) (else-second (maxDue q r mx) _ e₄)) (else-first (maxDue q r mx) _ e₄)
   where
-    few : Dec (slots q < len) → Dec (len ≡ slots q) → lenDue q len ≡ 0 → fullDue q len ≡ 0 → len < slots q
-    few (yes a) b x y = absurd (omega (arith, len-due q len a))
-    few (no a) (yes b) x y = absurd (omega (arith, full-due q len b))
-    few (no a) (no b) x y = omega arith
+    fits : Dec (slots q < len) → Dec (capacity q < len) → lenDue q len ≡ 0 → fullDue q len ≡ 0 → len ≤ capacity q
+    fits (yes a) b x y = absurd (omega (arith, len-due q len a))
+    fits (no a) (yes b) x y = absurd (omega (arith, full-due q len b (omega arith)))
+    fits (no a) (no b) x y = omega arith
 
 pub clear-none : (q r len mx size : ℕ) → Clear q r len mx size → due q r len mx size ≡ 0
 unfolding due dueOf
 clear-none q r len mx size c =
     else-none (widthsDue q r) _ (widths-none q r (c .widths)) ∙ else-none (sizeDue q r size) _ (size-none q r size (c .size-is))
     ∙ else-none (lenDue q len) _ (len-none q len (omega (arith, c .fewer))) ∙ else-none (maxDue q r mx) _ (c .max-none)
-    ∙ full-none q len (λ e. omega (arith, c .fewer))
+    ∙ full-none q len (c .room)
 
 pub max-absent : (q r mx : ℕ) → mx ≡ 0 → maxDue q r mx ≡ 0
 unfolding maxDue
@@ -205,4 +207,4 @@ due-most q r len mx size =
     (else-most (lenDue q len) _ (one-most (decLt (slots q) len) 3 0 (omega arith) (omega arith))
     (else-most (maxDue q r mx) _
     (one-most (ℕ-discrete mx 0) 0 _ (omega arith) (one-most (decLt mx q) 4 _ (omega arith) (one-most (decLt 59 mx) 4 _ (omega arith) (one-most (decLt (q + r - 1) mx) 4 0 (omega arith) (omega arith)))))
-    (one-most (ℕ-discrete len (slots q)) 5 0 (omega arith) (omega arith)))))
+    (one-most (decLt (capacity q) len) _ 0 (one-most (decLe len (slots q)) 5 0 (omega arith) (omega arith)) (omega arith)))))

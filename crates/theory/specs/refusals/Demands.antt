@@ -1,4 +1,4 @@
--- What the promises pin down: a checked call has one outcome at most; every holding that leaves a slot empty is that of a sound filter; two sound filters
+-- What the promises pin down: a checked call has one outcome at most; every holding of at most capacity is that of a sound filter; two sound filters
 -- are equal in len and bytes exactly if they hold every fingerprint equally often. Assumes nothing.
 use Prim.Native.Nat.{ℕ, _*_, _^_, _≤_, _<_}
 use mathlib.Core.Path.{_≡_, refl, sym, ap, _∙_}
@@ -11,11 +11,11 @@ use lib.ListN.{length}
 use Rattle.theory.specs.tools.Choose.{choose-no}
 use Rattle.theory.specs.Holding.{Holding, Under, copies}
 use Rattle.theory.specs.list.Copies.{copies-tell}
-use Rattle.theory.specs.Shape.{slots, bytes, Widths}
+use Rattle.theory.specs.Shape.{slots, capacity, bytes, Widths}
 use Rattle.theory.specs.Image.{image}
 use Rattle.theory.specs.images.ImageBytes.{image-tells, image-length}
 use Rattle.theory.specs.refusals.SoundDecided.{sound-dec}
-use Rattle.theory.specs.refusals.ByNumber.{none-due, clear-none, max-absent}
+use Rattle.theory.specs.refusals.ByNumber.{none-due, clear, clear-none, max-absent}
 use Rattle.theory.specs.Refusal.{due}
 use Rattle.theory.specs.Sound.{Quick, Sound, Holds, Checked}
 
@@ -54,10 +54,10 @@ not-refused q r len mx s refused right p never = go (eq-zero-or-pos (due q r len
     go (inl e) (no y) = absurd (never _ (p .damaged e y))
     go (inl e) (yes y) = (y, p .sound e (y .held) (y .holds))
 
--- ---- every holding of fewer fingerprints than slots has a sound buffer
-pub a-filter : (q r : ℕ) (l : List ℕ) → Widths q r → Holding (slots q) (2 ^ r) l → Sound q r (length l) 0 (image q r l)
-a-filter q r l w h = record {
-  none = clear-none q r (length l) 0 (length (image q r l)) (record { widths = w; size-is = image-length q r l; fewer = h .fewer; max-none = max-absent q r 0 refl });
+-- ---- every holding of at most capacity has a sound buffer
+pub a-filter : (q r : ℕ) (l : List ℕ) → Widths q r → Holding (slots q) (2 ^ r) l → length l ≤ capacity q → Sound q r (length l) 0 (image q r l)
+a-filter q r l w h room = record {
+  none = clear-none q r (length l) 0 (length (image q r l)) (clear w (image-length q r l) room (max-absent q r 0 refl));
   held = l;
   holds = record { holding = h; many = refl; bytes = refl };
 }

@@ -3,7 +3,7 @@ use mathlib.Core.Path.{_≡_, _∙_}
 use native.Mathlib.Omega.{arith}
 use lib.ListN.{length}
 use denote.Ref.{now}
-use Rattle.layout.specs.Judging.{clear-whole}
+use Rattle.layout.specs.Judging.{clear-whole, clear-within}
 use Rattle.theory.specs.plan.Limits.{few}
 use Rattle.layout.specs.Records.{shapeOf}
 use Rattle.growth.specs.WiderDue.{WiderDue}
@@ -25,7 +25,7 @@ shape-requires-2 c κs = search needs
 wider-due-requires : tie.Need-wider-due-requires
 wider-due-requires c κs =
     let s = c .before .before .before .before .before in
-    rw (c .shape2 .ensures, c .before .shape .ensures) (clear-whole (s .args .n) (now (s .args .buf)) (s .pre .0), clear-whole (s .args .m) (now (s .args .other)) (s .pre .1))
+    rw (c .shape2 .ensures, c .before .shape .ensures) (clear-whole (s .args .n) (now (s .args .buf)) (s .pre .0), clear-whole (s .args .m) (now (s .args .other)) (s .pre .1), clear-within (s .args .n) (now (s .args .buf)) (s .pre .0))
 
 returns : tie.Need-returns
 returns c =

@@ -1,6 +1,7 @@
 -- `layout::numbers::due_of`: numbers 2 to 5, lowest first. Assumes nothing.
 use mathlib.Core.Path.{sym, _∙_}
 use native.Mathlib.Omega.{arith}
+use Rattle.theory.specs.images.Sizes.{past-capacity, within-capacity}
 use Rattle.theory.specs.refusals.ByNumber.{due-size, due-len, due-max, due-full, full-due, full-none, max-four}
 use borrow.Author.Needs.{needs}
 use Rattle.layout.proofs.numbers.due_of.Statement.{statement}
@@ -23,20 +24,21 @@ max-due-requires c κs = search needs
 
 returns-3 : tie.Need-returns-3
 returns-3 c =
-    let m = c .before .max-due .ensures in
-    let four = max-four _ _ _ (rw m at (c .if3 .taken)) in
-    sym (due-max _ _ _ _ _ (omega arith) (omega arith) (omega arith) ∙ four)
+    sym (due-max _ _ _ _ _ (omega arith) (omega arith) (omega arith) ∙ max-four _ _ _ (omega arith))
 
-slots-requires-2 : tie.Need-slots-requires-2
-slots-requires-2 c κs = search needs
+add-if4 : tie.Need-add-if4
+add-if4 c = search needs
+
+mul-if4 : tie.Need-mul-if4
+mul-if4 c = search needs
 
 returns-4 : tie.Need-returns-4
 returns-4 c =
-    sym (due-full _ _ _ _ _ (omega arith) (omega arith) (omega arith) ∙ full-due _ _ (omega arith))
+    sym (due-full _ _ _ _ _ (omega arith) (omega arith) (omega arith) ∙ full-due _ _ (past-capacity _ _ (omega arith) (omega arith)) (omega arith))
 
 returns-5 : tie.Need-returns-5
 returns-5 c =
-    sym (due-full _ _ _ _ _ (omega arith) (omega arith) (omega arith) ∙ full-none _ _ (λ e. c .if4 .left (e ∙ sym (c .before .slots2 .ensures .0))))
+    sym (due-full _ _ _ _ _ (omega arith) (omega arith) (omega arith) ∙ full-none _ _ (within-capacity _ _ (omega arith) (omega arith)))
 
 pub due-of-spec : {M : Type 1} → statement M
 due-of-spec =
@@ -48,6 +50,7 @@ due-of-spec =
     returns-2
     max-due-requires
     returns-3
-    slots-requires-2
+    add-if4
+    mul-if4
     returns-4
     returns-5)

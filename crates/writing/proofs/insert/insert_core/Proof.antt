@@ -79,7 +79,7 @@ returns-3 c =
     let s = k .before .before .before .before .before .before in
     let a = s .args in
     let q = k .before .before .before .before .quotient .ensures in
-    core-missed (a .shape) (s .pre .widths .low) (now (a .buf)) (a .len) (a .hash) (a .max-count) _ _ _ (q .0) (q .1) (k .before .before .before .remainder .ensures .0) (k .before .find-spot .ensures) _ (k .larger .ensures) (i .before .before .if1 .left) (omega (arith, i .before .capacity .ensures .0)) (missed c)
+    core-missed (a .shape) (s .pre .widths .low) (now (a .buf)) (a .len) (a .hash) (a .max-count) _ _ _ (q .0) (q .1) (k .before .before .before .remainder .ensures .0) (k .before .find-spot .ensures) _ (k .larger .ensures) (i .before .before .if1 .left) (missed c)
 
 same-length-4 : tie.Need-same-length-4
 same-length-4 c = search needs
@@ -91,7 +91,7 @@ returns-4 c =
     let s = k .before .before .before .before .before .before in
     let a = s .args in
     let q = k .before .before .before .before .quotient .ensures in
-    core-before (a .shape) (s .pre .widths .low) (now (a .buf)) (a .len) (a .hash) (a .max-count) _ _ _ (q .0) (q .1) (k .before .before .before .remainder .ensures .0) (k .before .find-spot .ensures) _ (k .larger .ensures) (i .before .before .if1 .left) (omega (arith, i .before .capacity .ensures .0)) _ (found (c .before .before)) (c .if3 .taken)
+    core-before (a .shape) (s .pre .widths .low) (now (a .buf)) (a .len) (a .hash) (a .max-count) _ _ _ (q .0) (q .1) (k .before .before .before .remainder .ensures .0) (k .before .find-spot .ensures) _ (k .larger .ensures) (i .before .before .if1 .left) _ (found (c .before .before)) (c .if3 .taken)
 
 write-in-requires : tie.Need-write-in-requires
 write-in-requires c κs =
@@ -114,7 +114,7 @@ returns-5 c =
     let s = k .before .before .before .before .before .before in
     let a = s .args in
     let q = k .before .before .before .before .quotient .ensures in
-    core-added (a .shape) (s .pre .widths .low) (now (a .buf)) (a .len) (a .hash) (a .max-count) _ _ _ (q .0) (q .1) (k .before .before .before .remainder .ensures .0) (k .before .find-spot .ensures) _ (k .larger .ensures) (i .before .before .if1 .left) (omega (arith, i .before .capacity .ensures .0)) _ (found t) _ (c .before .before .write-in .ensures)
+    core-added (a .shape) (s .pre .widths .low) (now (a .buf)) (a .len) (a .hash) (a .max-count) _ _ _ (q .0) (q .1) (k .before .before .before .remainder .ensures .0) (k .before .find-spot .ensures) _ (k .larger .ensures) (i .before .before .if1 .left) _ (found t) _ (c .before .before .write-in .ensures) (omega (arith, i .before .capacity .ensures .0))
 
 pub insert-core-spec : {M : Type 1} → statement M
 insert-core-spec =

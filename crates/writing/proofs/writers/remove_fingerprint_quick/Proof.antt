@@ -17,7 +17,7 @@ number-due-requires : tie.Need-number-due-requires
 number-due-requires c κs = search needs
 
 returns : tie.Need-returns
-returns c = quick-refused _ _ _ _ _ _ (c .before .number-due .ensures) (c .if1 .taken) (refl, refl) (inside-same _)
+returns c = quick-refused _ _ _ _ _ _ (c .before .number-due .ensures) (c .if1 .taken) (refl, refl) (inside-same _, tt)
 
 remove-worked-requires : tie.Need-remove-worked-requires
 remove-worked-requires c κs = search needs
