@@ -29,7 +29,8 @@
  * before it works. One that ends in `_quick`, and a step of a listing, asks 1 to 5: on a buffer that
  * is not sound it ends and stays inside, but its answer may be anything, 6 included, and a quick
  * writer may alter the blocks; the last eight bytes stay, and of the record only len is open, which
- * is at most capacity. */
+ * is at most capacity. A quick insert with max_count 0 leaves nothing open: it answers 0 and changes
+ * nothing. */
 #ifndef STRUMBLAY_H
 #define STRUMBLAY_H
 
@@ -157,9 +158,10 @@ strumblay_next strumblay_list_step(const uint8_t *buf, size_t buf_len, strumblay
 
 /* Insert and remove. */
 
-/* One copy more if fewer than max(1, max_count) are held. Answers the smaller of the two, the copies
- * held before and max(1, max_count). Refuses 7 where a copy is due and the filter is at its capacity.
- * A quick insert that is refused has changed nothing, on any buffer. */
+/* One copy more if fewer than max_count are held. Answers the smaller of the two, the copies held
+ * before and max_count. Refuses 7 where a copy is due and the filter is at its capacity. With
+ * max_count 0 no copy is ever due: it answers 0, whatever is held, and changes nothing. A quick
+ * insert that is refused, or has max_count 0, has changed nothing on any buffer. */
 strumblay_changed strumblay_insert(uint8_t *buf, size_t buf_len, strumblay_numbers n,
                                    uint64_t hash, uint64_t max_count);
 strumblay_changed strumblay_insert_quick(uint8_t *buf, size_t buf_len, strumblay_numbers n,
@@ -204,8 +206,8 @@ typedef struct {
 
 /* Insert that, where it would refuse 7, grows into the spare and inserts there; the old buffer is
  * then as it was. Refuses 7 where it may not grow, then 12 where the spare's length is not that of
- * qbits + 1; a spare that is not needed is not looked at. On a buffer that is not sound the quick
- * form leaves the spare as it was. */
+ * qbits + 1; a spare that is not needed is not looked at, so with max_count 0 it never is. On a
+ * buffer that is not sound the quick form leaves the spare as it was. */
 strumblay_spare_answer strumblay_insert_spare(uint8_t *buf, size_t buf_len, strumblay_numbers n,
                                               uint64_t hash, uint64_t max_count,
                                               uint8_t *spare, size_t spare_len);

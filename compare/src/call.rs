@@ -20,6 +20,17 @@ impl Call {
     pub fn writes(&self) -> bool {
         !matches!(self, Call::Contains { .. } | Call::Count { .. } | Call::List)
     }
+
+    /// An insert with max_count 0 as one with max_count 1, which is what the original makes of it.
+    pub fn with_one(&self) -> Option<Call> {
+        match *self {
+            Call::Insert { hash, max_count: 0 } => Some(Call::Insert { hash, max_count: 1 }),
+            Call::InsertSpare { hash, max_count: 0 } => {
+                Some(Call::InsertSpare { hash, max_count: 1 })
+            }
+            _ => None,
+        }
+    }
 }
 
 /// What a call answers.

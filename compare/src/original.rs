@@ -108,6 +108,11 @@ impl Subject for Original {
         Some(self.change(call).unwrap_or_else(|error| Answer::Refused(number_of(error))))
     }
 
+    /// It adds for max_count 0, as it does for 1.
+    fn departs(&self, call: &Call) -> Option<Call> {
+        call.with_one()
+    }
+
     fn numbers(&self) -> Numbers {
         numbers_of(&self.0)
     }

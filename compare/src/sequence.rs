@@ -7,10 +7,11 @@ use crate::smallest;
 use crate::subject::{self, Subject};
 use std::panic::{AssertUnwindSafe, catch_unwind};
 
-/// The subjects, and how many calls of each agreed.
+/// The subjects, how many calls of each agreed, and how many departed in the known way.
 pub struct Comparison {
     driver: &'static str,
     subjects: Vec<(Box<dyn Subject>, u64)>,
+    departed: u64,
 }
 
 /// What the model says to one call.
@@ -20,11 +21,20 @@ pub struct Expected {
     pub image: Vec<u8>,
 }
 
+impl Expected {
+    /// What a subject must say to a call on a filter, its known departure included.
+    pub fn of(subject: &dyn Subject, filter: &Filter, call: &Call) -> Expected {
+        let mut after = filter.clone();
+        let answer = ask_model(&mut after, subject.departs(call).as_ref().unwrap_or(call));
+        Expected { answer, numbers: after.numbers(), image: after.image() }
+    }
+}
+
 impl Comparison {
     /// All subjects, for one driver.
     pub fn new(driver: &'static str) -> Comparison {
         let subjects = subject::all().into_iter().map(|subject| (subject, 0)).collect();
-        Comparison { driver, subjects }
+        Comparison { driver, subjects, departed: 0 }
     }
 
     /// Runs the calls from a start on.
@@ -35,6 +45,7 @@ impl Comparison {
             subject.load(start, &image);
         }
         for (done, call) in calls.iter().enumerate() {
+            self.depart(call, &filter);
             let answer = ask_model(&mut filter, call);
             if call.writes() && !matches!(answer, Answer::Refused(_)) {
                 image = filter.image();
@@ -54,6 +65,10 @@ impl Comparison {
         before: impl Fn() -> Filter,
     ) {
         for (subject, agreed) in &mut self.subjects {
+            if subject.departs(call).is_some() {
+                subject.load(now, &expected.image);
+                continue;
+            }
             match ask(subject.as_mut(), call, expected) {
                 Some(Ok(())) => *agreed += 1,
                 Some(Err(_)) => {
@@ -64,13 +79,32 @@ impl Comparison {
         }
     }
 
+    /// Asks the subjects that depart from the rules in this call, on the filter before it; `compare`
+    /// takes them to where the rules are afterwards.
+    fn depart(&mut self, call: &Call, filter: &Filter) {
+        for (subject, _) in &mut self.subjects {
+            if subject.departs(call).is_none() {
+                continue;
+            }
+            let expected = Expected::of(subject.as_ref(), filter, call);
+            if !matches!(ask(subject.as_mut(), call, &expected), Some(Ok(()))) {
+                smallest::report(self.driver, subject.as_mut(), filter.clone(), call.clone())
+            }
+            self.departed += 1;
+        }
+    }
+
     /// The driver's last line.
     pub fn finish(self, more: &str) {
+        let departed = match self.departed {
+            0 => String::new(),
+            n => format!(", and {n} known departures with max_count 0"),
+        };
         let asked = self.subjects.iter().filter(|(_, agreed)| *agreed > 0);
         let each: Vec<String> =
             asked.map(|(subject, n)| format!("{} {n}", subject.name())).collect();
         let total: u64 = self.subjects.iter().map(|(_, agreed)| agreed).sum();
-        println!("{}: {total} calls agree ({}){more}", self.driver, each.join(", "));
+        println!("{}: {total} calls agree ({}){departed}{more}", self.driver, each.join(", "));
     }
 }
 

@@ -1,7 +1,7 @@
 //! Makes a disagreement small before it is printed. A call depends on nothing but the filter it
 //! finds, so one holding and one call are always enough.
 
-use crate::call::{Call, ask_model};
+use crate::call::Call;
 use crate::model::Filter;
 use crate::sequence::{Expected, ask};
 use crate::subject::Subject;
@@ -16,6 +16,9 @@ pub fn report(driver: &str, subject: &mut dyn Subject, filter: Filter, call: Cal
     match &call {
         Call::Merge { other, keep } => println!("  merge, keep {keep}, with {}", describe(other)),
         call => println!("  call {call:x?}"),
+    }
+    if let Some(rule) = subject.departs(&call) {
+        println!("  held to what the rules say of {rule:x?}");
     }
     println!("  {differs}");
     std::process::exit(1)
@@ -40,9 +43,7 @@ pub fn hex(bytes: &[u8]) -> String {
 
 fn differs(subject: &mut dyn Subject, filter: &Filter, call: &Call) -> Option<String> {
     subject.load(filter, &filter.image());
-    let mut after = filter.clone();
-    let answer = ask_model(&mut after, call);
-    let expected = Expected { answer, numbers: after.numbers(), image: after.image() };
+    let expected = Expected::of(subject, filter, call);
     ask(subject, call, &expected)?.err()
 }
 

@@ -15,6 +15,12 @@ pub trait Subject {
     /// model has afterwards; it tells how long a destination must be.
     fn ask(&mut self, call: &Call, after: Numbers) -> Option<Answer>;
 
+    /// Where the subject departs from the rules in a way that is known: the call whose outcome
+    /// this one has there.
+    fn departs(&self, _call: &Call) -> Option<Call> {
+        None
+    }
+
     /// The record now.
     fn numbers(&self) -> Numbers;
 

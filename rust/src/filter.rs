@@ -144,9 +144,9 @@ impl<B: AsMut<[u8]>> Filter<B> {
         Error::unless(made.number, Filter { buffer, numbers: made.numbers })
     }
 
-    /// One copy more if fewer than max(1, `max_count`) are held; answers the smaller of the two,
-    /// the copies held before and max(1, `max_count`). Checked: 1 to 6, then 7 where a copy is due
-    /// and the filter is at its capacity.
+    /// One copy more if fewer than `max_count` are held; answers the smaller of the two, the copies
+    /// held before and `max_count`. With 0 it answers 0, whatever is held, and changes nothing.
+    /// Checked: 1 to 6, then 7 where a copy is due and the filter is at its capacity.
     ///
     /// ```
     /// # use strumblay::{Error, Filter, Widths};
@@ -154,6 +154,7 @@ impl<B: AsMut<[u8]>> Filter<B> {
     /// assert_eq!(filter.insert(0x0103, 2)?, 0);
     /// assert_eq!(filter.insert(0x0103, 2)?, 1);
     /// assert_eq!(filter.insert(0x0103, 2)?, 2);
+    /// assert_eq!(filter.insert(0x0103, 0)?, 0);
     /// assert_eq!((filter.count(0x0103)?, filter.len()), (2, 2));
     /// # Ok::<(), Error>(())
     /// ```
@@ -162,7 +163,8 @@ impl<B: AsMut<[u8]>> Filter<B> {
         self.take(changed)
     }
 
-    /// As [`insert`](Self::insert), quick: 1 to 5, 7. A refusal has changed nothing, on any buffer.
+    /// As [`insert`](Self::insert), quick: 1 to 5, 7. On any buffer, neither a refusal nor an insert
+    /// with `max_count` 0 has changed anything.
     pub fn insert_quick(&mut self, hash: u64, max_count: u64) -> Result<u64> {
         let changed = ffi::insert_quick(self.buffer.as_mut(), self.numbers, hash, max_count);
         self.take(changed)

@@ -88,7 +88,8 @@ impl<B: AsRef<[u8]>> Filter<B> {
 impl<B: AsMut<[u8]>> Filter<B> {
     /// As [`insert`](Self::insert); where that refuses 7 the filter grows into `spare`, if it may,
     /// and the two buffers change places: the filter keeps the one that holds it. Checked: 1 to 6,
-    /// then 7, then 12 for the length of `spare`, which is asked only where it is needed.
+    /// then 7, then 12 for the length of `spare`, which is asked only where it is needed: never with
+    /// `max_count` 0.
     ///
     /// ```
     /// # use strumblay::{Error, Filter, Widths};
@@ -110,7 +111,8 @@ impl<B: AsMut<[u8]>> Filter<B> {
     }
 
     /// As [`insert_spare`](Self::insert_spare), quick: 1 to 5, 7, 12. On a buffer that is not sound
-    /// the spare stays as it was; a refusal has changed neither.
+    /// the spare stays as it was. Neither a refusal nor an insert with `max_count` 0 has changed
+    /// either buffer.
     pub fn insert_spare_quick(&mut self, hash: u64, max_count: u64, spare: &mut B) -> Result<u64> {
         let (old, new) = (self.buffer.as_mut(), spare.as_mut());
         let got = ffi::insert_spare_quick(old, self.numbers, hash, max_count, new);

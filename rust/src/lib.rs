@@ -28,9 +28,10 @@
 //! `_quick` asks 1 to 5, without reading the buffer, and then trusts it: after one [`Filter::check`]
 //! it gives the same answers. On a buffer that is not sound it ends and touches nothing else, but
 //! its answer, 6 included, and what it writes in the buffer's blocks may be anything; of its record
-//! only len is open, and it is at most capacity. No call panics, though one that makes a buffer of
-//! its own needs the memory. A refused call has changed nothing; only a quick remove on a buffer
-//! that is not sound may have altered blocks.
+//! only len is open, and it is at most capacity. A quick insert with `max_count` 0 answers 0 and
+//! changes nothing there too. No call panics, though one that makes a buffer of its own needs the
+//! memory. A refused call has changed nothing; only a quick remove on a buffer that is not sound may
+//! have altered blocks.
 //!
 //! # Buffers
 //! [`Filter<B>`](Filter) works over a `Vec<u8>` of its own, over `&mut [u8]`, and for reading over

@@ -12,6 +12,12 @@ fn of(hashes: &[u64]) -> Filter<Vec<u8>> {
     filter
 }
 
+/// The same in a filter that may grow.
+fn growing(hashes: &[u64]) -> Filter<Vec<u8>> {
+    let (bytes, numbers) = of(hashes).into_parts();
+    Filter::from_parts(bytes, Numbers { max_qbits: 7, ..numbers })
+}
+
 /// The bytes that are not 0, with their indices.
 fn set<B: AsRef<[u8]>>(filter: &Filter<B>) -> Vec<(usize, u8)> {
     filter.buffer().iter().copied().enumerate().filter(|&(_, byte)| byte != 0).collect()
@@ -54,14 +60,44 @@ fn a_run_that_wraps() {
 fn capacity_and_counts() {
     let mut filter = of(&[]);
     for hash in 0..61 {
-        assert_eq!(filter.insert_quick(hash, 0), Ok(0));
+        assert_eq!(filter.insert_quick(hash, 1), Ok(0));
     }
     let full = filter.clone();
     assert_eq!(filter.insert(61, 1), Err(Error::NO_ROOM));
-    assert_eq!(filter.insert(60, 0), Ok(1));
+    assert_eq!(filter.insert(60, 1), Ok(1));
     assert_eq!(filter.insert_quick(60, 2), Err(Error::NO_ROOM));
     assert_eq!(filter, full);
     assert_eq!(filter.check(), Ok(()));
+}
+
+#[test]
+fn zero_adds_nothing() {
+    for hashes in [vec![], vec![5; 2], (0..61).collect()] {
+        let mut filter = growing(&hashes);
+        let before = filter.clone();
+        // Of the length that growth would need, and of another.
+        for (hash, mut spare) in [(5, vec![1; 154]), (99, vec![1; 154]), (99, vec![1; 9])] {
+            let whole = spare.clone();
+            assert_eq!(filter.insert(hash, 0), Ok(0));
+            assert_eq!(filter.insert_quick(hash, 0), Ok(0));
+            assert_eq!(filter.insert_spare(hash, 0, &mut spare), Ok(0));
+            assert_eq!(filter.insert_spare_quick(hash, 0, &mut spare), Ok(0));
+            assert_eq!(filter.insert_growing(hash, 0), Ok(0));
+            assert_eq!((&filter, spare), (&before, whole));
+        }
+    }
+}
+
+#[test]
+fn zero_on_a_damaged_buffer() {
+    let (mut bytes, numbers) = growing(&[5; 3]).into_parts();
+    bytes[0] ^= 1;
+    let mut filter = Filter::from_parts(bytes.clone(), numbers);
+    let mut spare = vec![1; 154];
+    assert_eq!(filter.insert(5, 0), Err(Error::NOT_SOUND));
+    assert_eq!(filter.insert_quick(5, 0), Ok(0));
+    assert_eq!(filter.insert_spare_quick(6, 0, &mut spare), Ok(0));
+    assert_eq!((filter.into_parts(), spare), ((bytes, numbers), vec![1; 154]));
 }
 
 #[test]

@@ -95,7 +95,7 @@ fn into_dest(
 
 /// Insert with a spare of some length, checked and, where the answer is fixed, quick.
 fn spare(rng: &mut Rng, mine: &Lent) {
-    let (hash, max_count) = (rng.next(), rng.pick(&[1, u64::MAX]));
+    let (hash, max_count) = (rng.next(), rng.pick(&[0, 1, u64::MAX]));
     let checked = check(mine.numbers, &mine.bytes);
     let spare = some_dest(rng, &checked.clone().and_then(|filter| filter.grow()));
     let spare_len = spare.bytes().len() as u64;
@@ -107,8 +107,14 @@ fn spare(rng: &mut Rng, mine: &Lent) {
     if let Ok((_, in_spare, filter)) = &expected {
         *(if *in_spare { &mut spare_bytes } else { &mut old_bytes }) = filter.image();
     }
-    let expected = expected.map(|(count, in_spare, filter)| (count, in_spare, filter.numbers()));
-    for &quick in if checked == Err(6) { &[false][..] } else { &[false, true] } {
+    let checked_answer =
+        expected.map(|(count, in_spare, filter)| (count, in_spare, filter.numbers()));
+    for quick in [false, true] {
+        let expected = match checked {
+            Err(6) if quick && max_count == 0 => Ok((0, false, mine.numbers)),
+            Err(6) if quick => continue,
+            _ => checked_answer,
+        };
         let (mut old, mut spare) = (Guarded::new(&mine.bytes), spare.clone());
         let lent = (old.bytes_mut(), mine.numbers);
         let got = writing::insert_spare(quick, lent, hash, max_count, spare.bytes_mut());

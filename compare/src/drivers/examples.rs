@@ -117,7 +117,8 @@ fn at_capacity(table: &mut Table) {
     table.holds("insert at 61", filter.insert(10, 1), Err(7));
     let refused = original.insert_without_growth(1, 10).map_err(number_of);
     table.holds("the original at 61", refused, Err(7));
-    table.holds("held is answered first", filter.insert(9, 0), Ok(1));
+    table.holds("held is answered first", filter.insert(9, 1), Ok(1));
+    table.holds("max_count 0 at 61", [9, 10].map(|hash| filter.insert(hash, 0)), [Ok(0); 2]);
     for (len, number) in [(61, None), (62, Some(5)), (63, Some(5))] {
         table.holds(
             &format!("{len} copies"),
@@ -134,12 +135,16 @@ fn at_capacity(table: &mut Table) {
     table.holds("64 and 65", [64, 65].map(due), [Some(5), Some(3)]);
 }
 
-/// max_count 0 adds what is absent.
+/// max_count 0 adds nothing; the original adds what is absent.
 fn max_count_0(table: &mut Table) {
     let (mut filter, mut original) = both(shape(6, 8), &[]);
     table.holds("max_count 0, absent", filter.insert(5, 0), Ok(0));
-    table.holds("max_count 0, held", filter.insert(5, 0), Ok(1));
+    table.holds("none is added", filter.len(), 0);
     let counts = [0, 0].map(|max_count| original.insert_without_growth(max_count, 5).ok());
     table.holds("the original's", counts, [Some(0), Some(1)]);
-    table.holds("its record", numbers_of(&original), filter.numbers());
+    table.holds("the original adds", numbers_of(&original).len, 1);
+    filter.add(5);
+    table.holds("max_count 0, held", filter.insert(5, 0), Ok(0));
+    table.holds("no second is added", filter.len(), 1);
+    table.holds("max_count 1, held", filter.insert(5, 1), Ok(1));
 }

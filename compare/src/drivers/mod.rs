@@ -2,6 +2,7 @@
 //! smallest input it has if anything disagrees.
 
 mod aimed;
+mod counts;
 mod examples;
 mod growth;
 mod inputs;
@@ -41,6 +42,7 @@ pub const ALL: &[Driver] = &[
     ("planning", planning::drive),
     ("reads", reads::drive),
     ("writes", writes::drive),
+    ("counts", counts::drive),
     ("aimed", aimed::drive),
     ("growth", growth::drive),
     ("merges", merges::drive),

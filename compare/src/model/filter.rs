@@ -58,11 +58,11 @@ impl Filter {
         run.iter().filter(|&&f| f == fingerprint).count() as u64
     }
 
-    /// One copy more if fewer than max(1, max_count) are held; answers how many were.
+    /// One copy more if fewer than max_count are held; answers the smaller of the two.
     pub fn insert(&mut self, hash: u64, max_count: u64) -> Result<u64, u64> {
         let held = self.count(hash);
-        if held >= max_count.max(1) {
-            return Ok(max_count.max(1));
+        if held >= max_count {
+            return Ok(max_count);
         }
         if self.len() >= self.shape.capacity() {
             return Err(7);

@@ -26,10 +26,11 @@ pub fn compare(
 ) -> Result<Seen, String> {
     subject.load_raw(numbers, bytes);
     let due = check(numbers, bytes);
-    if subject.is_quick() && due == Err(6) {
-        return free(subject, bytes, call);
-    }
     let expected = match due {
+        Err(6) if subject.is_quick() => match looked(call) {
+            Some(answer) => Expected { answer, numbers, image: bytes.to_vec() },
+            None => return free(subject, bytes, call),
+        },
         Err(number) => Expected { answer: Answer::Refused(number), numbers, image: bytes.to_vec() },
         Ok(mut filter) => {
             let answer = ask_model(&mut filter, call);
@@ -42,9 +43,18 @@ pub fn compare(
     }
 }
 
-/// A quick call where 6 is due: neither answer, len nor blocks are fixed, all else is. The spare
-/// stays whole and is not named, an insert that is refused has changed nothing, and len is at most
-/// capacity.
+/// The answer of an insert with max_count 0, which is fixed on a damaged buffer too.
+fn looked(call: &Call) -> Option<Answer> {
+    match call {
+        Call::Insert { max_count: 0, .. } => Some(Answer::Count(0)),
+        Call::InsertSpare { max_count: 0, .. } => Some(Answer::Spare { count: 0, in_spare: false }),
+        _ => None,
+    }
+}
+
+/// Any other quick call where 6 is due: neither answer, len nor blocks are fixed, all else is. The
+/// spare stays whole and is not named, an insert that is refused has changed nothing, and len is at
+/// most capacity.
 fn free(subject: &mut Proved, bytes: &[u8], call: &Call) -> Result<Seen, String> {
     let before = subject.numbers();
     let Some(answer) = subject.ask(call, before) else {

@@ -1,5 +1,6 @@
-//! The list of calls that `crates/vectors` replays, and what the original answers to each: the two
-//! files of that crate, made here and compared with those that stand there.
+//! The list of calls that `crates/vectors` replays, and what the original answers to each (the model
+//! to an insert with max_count 0): the two files of that crate, made here and compared with those
+//! that stand there.
 
 mod lent;
 mod listing;
@@ -28,7 +29,7 @@ pub fn write() {
     }
 }
 
-/// The crate's files must be the ones that the original gives today.
+/// The crate's files must be the ones that are made today.
 pub fn compare() {
     let mut lines = 0;
     for (path, text) in files() {

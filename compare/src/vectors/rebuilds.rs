@@ -31,8 +31,9 @@ pub fn spares(replay: &mut Replay) {
     fresh(replay, small, 7);
     each(replay, [Line('a', 0x0201, SPREADING, 59), Line('p', 0x0201, 1, grown)]);
     each(replay, [Line('p', 0x0202, MAX, 0), Line('P', 0x0203, MAX, grown)]);
-    // Full: enough copies need no room, and the spare is looked at only then.
+    // Full: enough copies need no room, and the spare is looked at only then, so never with 0.
     each(replay, [Line('p', 0x0203, 1, 0), Line('p', 0x0204, 1, grown - 1)]);
+    each(replay, [Line('p', 0x0204, 0, grown), Line('P', 0x0204, 0, grown - 1)]);
     each(replay, [Line('p', 0x0204, 1, grown), Line('P', 0x0203, 2, grown), Line('d', 0, 0, 0)]);
     each(replay, [Line('k', 0, 0, 0), Line('n', 0x0203, 0, 0), Line('p', 0x0204, 1, 300)]);
     each(replay, [Line('a', 0x0301, SPREADING, 122), Line('p', 0x3f00, MAX, 300)]);

@@ -58,6 +58,8 @@ fn damaged_bytes(replay: &mut Replay, right: u64) {
     each(replay, [Line('b', 18, 0x01, 0), Line('b', 19, 0x81, 0), Line('k', 0, 0, 0)]);
     replay.call(Line('b', 3, 0xff, 0));
     refused(replay);
+    // With max_count 0 a quick insert is fixed there too.
+    each(replay, [Line('i', 0x101, 0, 0), Line('I', 0x101, 0, 0), Line('P', 0x101, 0, 170)]);
     each(replay, [Line('b', 3, bytes[3].into(), 0), Line('k', 0, 0, 0)]);
 }
 

@@ -1,5 +1,6 @@
 //! What `crates/vectors` keeps between its calls, with the original in the place of the proved
-//! code: each call's line of the list, and the line that answers it.
+//! code, and the model for an insert with max_count 0: each call's line of the list, and the line
+//! that answers it.
 
 use super::lent::Lent;
 use super::listing::Listing;
@@ -103,7 +104,16 @@ impl Replay {
         }
     }
 
-    /// The filter for a call; a quick one is never asked where number 6 is due.
+    /// An insert with max_count 0, for which the original adds, so that the model is asked. Where
+    /// number 6 is due a quick one answers 0 too.
+    fn look(&self, kind: char, hash: u64) -> Result<u64, u64> {
+        match self.own.check() {
+            Err(6) if kind.is_uppercase() => Ok(0),
+            sound => sound?.insert(hash, 0),
+        }
+    }
+
+    /// The filter for any other call; a quick one is never asked where number 6 is due.
     fn sound(&self, kind: char) -> Result<Filter, u64> {
         let sound = self.own.check();
         assert!(sound != Err(6) || kind.is_lowercase(), "no answer is fixed there");
@@ -122,6 +132,9 @@ impl Replay {
     }
 
     fn insert(&mut self, kind: char, hash: u64, max_count: u64) -> Result<String, u64> {
+        if max_count == 0 {
+            return Ok(format!("counted {}", self.look(kind, hash)?));
+        }
         self.sound(kind)?;
         let mut filter = self.own.original();
         let count = filter.insert_without_growth(max_count, hash).map_err(number_of)?;
@@ -188,6 +201,10 @@ impl Replay {
         size: u64,
     ) -> Result<String, u64> {
         self.dest.size = size;
+        if max_count == 0 {
+            let count = self.look(kind, hash)?;
+            return Ok(format!("old {count} {}", shown(self.own.numbers)));
+        }
         self.sound(kind)?;
         let mut filter = self.own.original();
         let count = filter.insert_fingerprint_counting(max_count, hash).map_err(number_of)?;

@@ -18,14 +18,13 @@ pub const SPREADING: u64 = 0x9e37_79b9_7f4a_7c15;
 /// The whole list, replayed.
 pub fn replayed() -> Replay {
     let mut replay = Replay::new();
-    let mut rng = Rng::new(SEED, "vectors");
     planning(&mut replay);
     examples(&mut replay);
     saturated(&mut replay);
     for (qbits, rbits) in [(6, 1), (6, 8), (6, 58), (7, 8), (8, 3), (9, 8)] {
         let shape = Shape { qbits, rbits };
-        walk(&mut replay, &mut rng, shape, SPREADING);
-        walk(&mut replay, &mut rng, shape, 1);
+        walk(&mut replay, shape, SPREADING);
+        walk(&mut replay, shape, 1);
     }
     refusals::refusals(&mut replay);
     rebuilds::growths(&mut replay);
@@ -87,9 +86,11 @@ fn examples(replay: &mut Replay) {
         [0x103, 0x104, 0x105, 0x106, 0x203, 0x7f0203, 0].map(|hash| Line('c', hash, 0, 0)),
     );
     listed(replay);
-    // max_count 0 adds an absent fingerprint and answers 1 if present.
-    let counts = [(0x104, 0), (0x104, 0), (0x104, 1), (0x104, 2), (0x104, 2), (0x104, MAX)];
-    each(replay, counts.map(|(hash, max_count)| Line('i', hash, max_count, 0)));
+    // max_count 0 adds nothing and answers 0, whether the fingerprint is held or not.
+    for max_count in [0, 1, 0, 1, 2, 0, 2, MAX] {
+        replay.call(Line('i', 0x104, max_count, 0));
+    }
+    each(replay, [Line('I', 0x104, 0, 0), Line('I', 0x107, 0, 0)]);
     each(replay, [0x104, 0x105, 0x107].map(|hash| Line('n', hash, 0, 0)));
     each(replay, [0x104, 0x107, 0x103, 0x203, 0x105].map(|hash| Line('m', hash, 0, 0)));
     listed(replay);
@@ -109,6 +110,9 @@ fn examples(replay: &mut Replay) {
 fn at_capacity(replay: &mut Replay, shape: Shape) {
     fresh(replay, shape, 0);
     each(replay, [Line('a', 0, 0x100, 61), Line('i', 0x3d00, 1, 0), Line('i', 0x3c00, 1, 0)]);
+    for hash in [0x3c00, 0x3d00] {
+        each(replay, [Line('i', hash, 0, 0), Line('I', hash, 0, 0)]);
+    }
     each(replay, [Line('b', 8, 0x7f, 0), Line('b', 16, 0x7f, 0), Line('k', 0, 0, 0)]);
     for len in [62, 64, 65, 63] {
         each(replay, [Line('r', len, widths(6, 8, 0), 89), Line('k', 0, 0, 0)]);
@@ -142,12 +146,13 @@ fn saturated(replay: &mut Replay) {
     each(replay, [Line('k', 0, 0, 0), Line('n', 0x07, 0, 0)]);
 }
 
-/// Near capacity, where clusters are long: a seeded walk up to it and down again.
-fn walk(replay: &mut Replay, rng: &mut Rng, shape: Shape, step: u64) {
+/// Near capacity, where clusters are long: a walk up to it and down again, with a seed of its own.
+fn walk(replay: &mut Replay, shape: Shape, step: u64) {
+    let mut rng = Rng::new(SEED, &format!("vectors {}/{} {step:x}", shape.qbits, shape.rbits));
     fresh(replay, shape, 0);
-    replay.call(Line('a', rng.next(), step, shape.capacity() - 5));
-    let hashes = Hashes::spread(rng, shape);
-    let calls = hashes.up_and_down(rng, &replay.filter(), 18);
+    replay.call(Line('a', rng.next(), step, shape.capacity() - 2));
+    let hashes = Hashes::spread(&mut rng, shape);
+    let calls = hashes.up_and_down(&mut rng, &replay.filter(), 18);
     for call in calls {
         replay.call(line(call, rng.one_in(2)));
     }

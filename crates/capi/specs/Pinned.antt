@@ -17,7 +17,7 @@ use Rattle.filter.specs.Listing.{Begins, Listed}
 use Rattle.layout.specs.Outcomes.{Settled}
 use Rattle.filter.specs.Pinned.{Fixed, contains-fingerprint-pinned, contains-fingerprint-quick-pinned, count-fingerprint-pinned, count-fingerprint-quick-pinned, begin-pinned, step-from-pinned}
 use Rattle.writing.specs.Writing.{Insert, InsertQuick, Remove, RemoveQuick}
-use Rattle.writing.specs.Pinned.{insert-fingerprint-counting-pinned, insert-fingerprint-counting-quick-pinned, remove-fingerprint-pinned, remove-fingerprint-quick-pinned}
+use Rattle.writing.specs.Pinned.{InsertSettled, insert-fingerprint-counting-pinned, insert-fingerprint-counting-quick-pinned, remove-fingerprint-pinned, remove-fingerprint-quick-pinned}
 use Rattle.growth.specs.Rebuilding.{Grows}
 use Rattle.growth.specs.Merging.{Merges}
 use Rattle.growth.specs.Spare.{InsertSpare, InsertSpareQuick}
@@ -87,7 +87,7 @@ module _ (n : Numbers) (s : List ℕ) where
     pub strumblay-insert-pinned : (most : ℕ) → writing.InsertOutcome n hash most s a t → writing.InsertOutcome n hash most s b u → (a ≡ b) × (t ≡ u)
     strumblay-insert-pinned most = shown-written (Insert n hash most s) (writing.insertedOf n) t u (λ x y. insert-fingerprint-counting-pinned n hash most s x y t u) a b
 
-    pub strumblay-insert-quick-pinned : (most : ℕ) → Settled n s → writing.InsertQuickOutcome n hash most s a t → writing.InsertQuickOutcome n hash most s b u → (a ≡ b) × (t ≡ u)
+    pub strumblay-insert-quick-pinned : (most : ℕ) → InsertSettled n most s → writing.InsertQuickOutcome n hash most s a t → writing.InsertQuickOutcome n hash most s b u → (a ≡ b) × (t ≡ u)
     strumblay-insert-quick-pinned most d = shown-written (InsertQuick n hash most s) (writing.insertedOf n) t u (λ x y. insert-fingerprint-counting-quick-pinned n hash most s x y t u d) a b
 
     pub strumblay-remove-pinned : writing.RemoveOutcome n hash s a t → writing.RemoveOutcome n hash s b u → (a ≡ b) × (t ≡ u)
@@ -117,7 +117,7 @@ module _ (n : Numbers) (s : List ℕ) where
         apart (shown-written (λ x (z : List ℕ × List ℕ). InsertSpare n hash most s d x (z .0) (z .1)) (growing.placedOf n) (t, e) (u, g)
         (λ x y v w. paired (insert-with-spare-pinned n hash most s d x y t u e g v w)) a b p q)
 
-    pub strumblay-insert-spare-quick-pinned : Settled n s → growing.InsertSpareQuickOutcome n hash most s d a t e → growing.InsertSpareQuickOutcome n hash most s d b u g → (a ≡ b) × (t ≡ u) × (e ≡ g)
+    pub strumblay-insert-spare-quick-pinned : InsertSettled n most s → growing.InsertSpareQuickOutcome n hash most s d a t e → growing.InsertSpareQuickOutcome n hash most s d b u g → (a ≡ b) × (t ≡ u) × (e ≡ g)
     strumblay-insert-spare-quick-pinned c p q =
         apart (shown-written (λ x (z : List ℕ × List ℕ). InsertSpareQuick n hash most s d x (z .0) (z .1)) (growing.placedOf n) (t, e) (u, g)
         (λ x y v w. paired (insert-with-spare-quick-pinned n hash most s d x y t u e g c v w)) a b p q)

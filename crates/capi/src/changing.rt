@@ -24,7 +24,7 @@ fn as_inserted(inserted: Inserted, n: Numbers) -> Changed
     }
 }
 
-// One copy more, if fewer than max(1, max_count) are held; the answer is the smaller of the two.
+// One copy more, if fewer than max_count are held; the answer is the smaller of the two.
 #[no_mangle]
 pub extern "C" fn strumblay_insert(buf: &mut [u8], n: Numbers, hash: u64, max_count: u64) -> Changed
     ensures { λ r. ⌜ InsertOutcome n hash «max_count» (now (buf .entry)) r (now (buf .exit)) ⌝ }

@@ -67,7 +67,7 @@ fn as_placed(placed: Placed, n: Numbers) -> SpareAnswer
     }
 }
 
-// An insert that grows into the spare where the buffer is full.
+// An insert that, where a copy is due and the buffer is full, grows into the spare.
 #[no_mangle]
 pub extern "C" fn strumblay_insert_spare(
     buf: &mut [u8],

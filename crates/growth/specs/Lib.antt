@@ -5,6 +5,7 @@ pub mod Counting
 pub mod Growing
 pub mod Holder
 pub mod Kept
+pub mod Looking
 pub mod MergeEqual
 pub mod MergeLists
 pub mod MergeWider

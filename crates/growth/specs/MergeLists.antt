@@ -7,7 +7,6 @@ use native.Mathlib.Omega.{arith}
 use lib.ListN.{length, length-map}
 use Rattle.theory.specs.Shape.{fingerprint}
 use Rattle.theory.specs.Holding.{Ascending, Under}
-use Rattle.theory.specs.Changing.{allowed}
 use Rattle.theory.specs.Joining.{addedOnce, joined, taken, wanted}
 use Rattle.theory.specs.list.Adding.{added-length}
 use Rattle.theory.specs.list.MergeLength.{ownOf}
@@ -49,17 +48,16 @@ abbrev pub Under-width : Shape → List ℕ → Type 0
 Under-width h l = Under (2 ^ (h .qbits + h .rbits)) l
 
 pub joins-own : (h : Shape) (keep : ℕ) (la : List ℕ) → Under-width h la → Ascending la → length la < 2 ^ 60 → takenIn h (mostOf keep) [] la ≡ ownOf keep la
-unfolding allowed
 joins-own h zero la u a n = ap (addedUpTo 1 []) (cut-same (h .qbits) (h .rbits) la u) ∙ up-to-one [] la
 joins-own h (suc keep) la u a n = taken-all h 18446744073709551615 [] la u (omega arith) ∙ added-alone la a
 
 pub joins-both : (h : Shape) (keep : ℕ) (la lb : List ℕ) → Under-width h lb → length la < 2 ^ 60 → length lb < 2 ^ 60 → takenIn h (mostOf keep) (ownOf keep la) lb ≡ joined keep la lb
-unfolding joined allowed
+unfolding joined
 joins-both h zero la lb u n k = ap (addedUpTo 1 (addedOnce [] la)) (cut-same (h .qbits) (h .rbits) lb u) ∙ up-to-one (addedOnce [] la) lb
 joins-both h (suc keep) la lb u n k = taken-all h 18446744073709551615 la lb u (omega arith)
 
 pub takes-wider : (h : Shape) (keep : ℕ) (la lb : List ℕ) → length la < 2 ^ 60 → length lb < 2 ^ 60 → takenIn h (mostOf keep) la lb ≡ taken keep (h .qbits) (h .rbits) la lb
-unfolding taken allowed
+unfolding taken
 takes-wider h zero la lb n k = up-to-one la (map (fingerprint (h .qbits) (h .rbits)) lb)
 takes-wider h (suc keep) la lb n k =
     up-to-all 18446744073709551615 la (map (fingerprint (h .qbits) (h .rbits)) lb) (omega (arith, length-map lb (fingerprint (h .qbits) (h .rbits))))

@@ -1,5 +1,6 @@
 -- What the promises of this crate's public calls pin down: of each, any two outcomes (the answer with its record, and every lent byte) that keep its promise coincide.
--- Checked calls: for all inputs. The quick call: where a number 1 to 5 is due or the buffer is sound, and there it does what the checked one does. Assumes nothing.
+-- Checked calls: for all inputs. The quick call: where a number 1 to 5 is due or the buffer is sound, and there it does what the checked one does; and with max_count 0 on every
+-- buffer, though on a damaged one the checked call gives 6. Assumes nothing.
 use Prim.Native.Nat.{ℕ, _<_}
 use mathlib.Core.Path.{_≡_, sym, ap, _∙_}
 use mathlib.Core.Logic.{_⊎_, inl, inr}
@@ -11,7 +12,8 @@ use Rattle.theory.specs.Answer.{Answer, refuses}
 use Rattle.theory.specs.refusals.Demands.{checked-one, quick-one, quick-checked}
 use Rattle.layout.specs.declared.numbers.Numbers.{Numbers}
 use Rattle.writing.specs.Writing.{inserting}
-use Rattle.layout.specs.Records.{HoldsOf}
+use Rattle.writing.specs.Pinned.{InsertSettled}
+use Rattle.layout.specs.Records.{HoldsOf, lowestDue}
 use Rattle.layout.specs.Outcomes.{Settled, alike, apart, leaves-one}
 use Rattle.growth.specs.declared.rebuild.Rebuilt.{Rebuilt}
 use Rattle.growth.specs.declared.spare.Placed.{Placed}
@@ -47,7 +49,7 @@ module _ (n : Numbers) (hash most : ℕ) (s d : List ℕ) where
   Right l x = Places n (inserting n hash most) l s d (placedSays (x .0)) (x .1) (x .2)
 
   abbrev Left : Outcome → Type 0
-  Left x = SpareLeaves n s d (x .0) (x .1) (x .2)
+  Left x = SpareLeaves n most s d (x .0) (x .1) (x .2)
 
   refused-one : (k : ℕ) (x y : Outcome) → Refused k x → Refused k y → x ≡ y
   refused-one k x y p q = both x y p q
@@ -70,8 +72,13 @@ module _ (n : Numbers) (hash most : ℕ) (s d : List ℕ) where
     pub insert-with-spare-pinned : InsertSpare n hash most s d a t e → InsertSpare n hash most s d b u g → (a ≡ b) × (t ≡ u) × (e ≡ g)
     insert-with-spare-pinned p q = parts (a, t, e) (b, u, g) (checked-one Refused Right _ _ _ _ s refused-one right-one (a, t, e) (b, u, g) p q)
 
-    pub insert-with-spare-quick-pinned : Settled n s → InsertSpareQuick n hash most s d a t e → InsertSpareQuick n hash most s d b u g → (a ≡ b) × (t ≡ u) × (e ≡ g)
-    insert-with-spare-quick-pinned c p q = parts (a, t, e) (b, u, g) (quick-one Refused Right _ _ _ _ s refused-one right-one Left c (a, t, e) (b, u, g) p q)
+    pub insert-with-spare-quick-pinned : InsertSettled n most s → InsertSpareQuick n hash most s d a t e → InsertSpareQuick n hash most s d b u g → (a ≡ b) × (t ≡ u) × (e ≡ g)
+    insert-with-spare-quick-pinned (inl c) p q = parts (a, t, e) (b, u, g) (quick-one Refused Right _ _ _ _ s refused-one right-one Left c (a, t, e) (b, u, g) p q)
+    insert-with-spare-quick-pinned (inr z) p q = parts (a, t, e) (b, u, g) (go (eq-zero-or-pos (lowestDue n s)))
+      where
+        go : (lowestDue n s ≡ 0) ⊎ (0 < lowestDue n s) → _≡_ {A = Outcome} (a, t, e) (b, u, g)
+        go (inl c) = both (a, t, e) (b, u, g) (p .other .looks z c) (q .other .looks z c)
+        go (inr h) = both (a, t, e) (b, u, g) (p .early h) (q .early h)
 
     pub spare-quick-checked : Settled n s → InsertSpareQuick n hash most s d a t e → InsertSpare n hash most s d b u g → (a ≡ b) × (t ≡ u) × (e ≡ g)
     spare-quick-checked c p q = parts (a, t, e) (b, u, g) (quick-checked Refused Right _ _ _ _ s refused-one right-one Left c (a, t, e) (b, u, g) p q)

@@ -10,7 +10,6 @@ use Rattle.theory.specs.tools.Choose.{choose-yes, choose-no}
 use Rattle.theory.specs.Shape.{Widths, slots, capacity, bytes}
 use Rattle.theory.specs.Holding.{Under}
 use Rattle.theory.specs.Answer.{Answer, refuses}
-use Rattle.theory.specs.Changing.{allowed}
 use Rattle.theory.specs.Image.{image}
 use Rattle.theory.specs.Refusal.{maxDue, destinationDue, orElse}
 use Rattle.theory.specs.Joining.{added, growthDue}
@@ -18,7 +17,6 @@ use Rattle.theory.specs.number.Bytes.{Bytes}
 use Rattle.theory.specs.images.Sizes.{next-room}
 use Rattle.theory.specs.images.ImageBytes.{image-tail}
 use Rattle.theory.specs.images.IsImage.{is-image, image-is}
-use Rattle.theory.specs.list.RuleCases.{allowed-high}
 use Rattle.theory.specs.list.UpTo.{addedUpTo, up-to-all, added-alone, cut-same}
 use Rattle.theory.specs.refusals.ByNumber.{max-good, max-fits, else-none, else-some}
 use Rattle.layout.specs.Judging.{clear-of}
@@ -97,7 +95,7 @@ shows-empty h low =
 -- with duplicates out of reach, a list of the width is added as it is
 pub taken-all : (h : Shape) (most : ℕ) (a b : List ℕ) → Under (2 ^ (h .qbits + h .rbits)) b → length a + length b ≤ most → takenIn h most a b ≡ added a b
 taken-all h most a b u n =
-    ap (addedUpTo (allowed most) a) (cut-same (h .qbits) (h .rbits) b u) ∙ up-to-all (allowed most) a b (omega (arith, allowed-high most))
+    ap (addedUpTo most a) (cut-same (h .qbits) (h .rbits) b u) ∙ up-to-all most a b n
 
 -- what a filter holds is of its width
 pub held-under : (h : Shape) (s l : List ℕ) → Shows h s l → Under (2 ^ (h .qbits + h .rbits)) l

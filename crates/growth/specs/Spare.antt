@@ -51,16 +51,22 @@ PlacedWithin n s (InOld m n′) = Keeps n n′
 PlacedWithin n s (InSpare m n′) = SoundOf n s × Keeps (grownTo n (n .len)) n′
 PlacedWithin n s (Refused k) = Unit {0}
 
--- on any buffer the quick form keeps the old one's length and last eight bytes, and the spare whole unless the old one is sound; what is refused has changed nothing; and the record is as above
-pub record SpareLeaves (n : Numbers) (s d : List ℕ) (a : Placed) (t e : List ℕ) : Type 0 where
+-- nothing is added, and the old buffer counts: the answer is 0, the record is the one given, and every byte of both stays
+abbrev pub BothUntouched : Numbers → List ℕ → List ℕ → Placed → List ℕ → List ℕ → Type 0
+BothUntouched n s d a t e = (placedSays a ≡ gives (placedIn 0 0 n)) × (t ≡ s) × (e ≡ d)
+
+-- on any buffer the quick form keeps the old one's length and last eight bytes, and the spare whole unless the old one is sound; what is refused has changed nothing; the record is as above;
+-- and with max_count 0, where none of 1 to 5 is due, it answers 0 and everything stays as it was
+pub record SpareLeaves (n : Numbers) (most : ℕ) (s d : List ℕ) (a : Placed) (t e : List ℕ) : Type 0 where
   pub inside : Inside s t
   pub whole : ¬ (SoundOf n s) → e ≡ d
   pub refused : (k : ℕ) → placedSays a ≡ refuses k → (t ≡ s) × (e ≡ d)
   pub within : PlacedWithin n s a
+  pub looks : most ≡ 0 → lowestDue n s ≡ 0 → BothUntouched n s d a t e
 
 abbrev pub InsertSpareQuick : Numbers → ℕ → ℕ → List ℕ → List ℕ → Placed → List ℕ → List ℕ → Type 0
 InsertSpareQuick n hash most s d a t e =
-    QuickOn n s (λ k. (placedSays a ≡ refuses k) × (t ≡ s) × (e ≡ d)) (λ l. Places n (inserting n hash most) l s d (placedSays a) t e) (SpareLeaves n s d a t e)
+    QuickOn n s (λ k. (placedSays a ≡ refuses k) × (t ≡ s) × (e ≡ d)) (λ l. Places n (inserting n hash most) l s d (placedSays a) t e) (SpareLeaves n most s d a t e)
 
 -- ---- how the code comes to it
 -- the answer of the insert into the spare
@@ -68,11 +74,12 @@ abbrev pub inSpare : Inserted → Placed
 inSpare (inserted.Counted m after) = InSpare m after
 inSpare (inserted.Refused k) = Refused k
 
-abbrev spared : Answer Changed → Answer PlacedIn
-spared (gives c) = gives (placedIn (c .answer) 1 (c .numbers))
-spared (refuses k) = refuses k
+-- what an insert into the old buffer, 0, or the spare, 1, says
+abbrev saidIn : ℕ → Answer Changed → Answer PlacedIn
+saidIn spare (gives c) = gives (placedIn (c .answer) spare (c .numbers))
+saidIn spare (refuses k) = refuses k
 
-spare-says : (z : Inserted) → placedSays (inSpare z) ≡ spared (insertedSays z)
+spare-says : (z : Inserted) → placedSays (inSpare z) ≡ saidIn 1 (insertedSays z)
 spare-says (inserted.Counted m after) = refl
 spare-says (inserted.Refused k) = refl
 
@@ -144,7 +151,7 @@ module _ (n : Numbers) (hash most : ℕ) (s d : List ℕ) where
         let i : InsertQuick (grownTo n (length l)) hash most (image (n .qbits + 1) (n .rbits - 1) l) (p .answer) t = rw (y, b .1) at (p .right) in
         let room = room-due (capacity (n .qbits + 1)) most (fingerprintOf (grownTo n (length l)) hash) l (grown-room n s l e h above) in
         let r = i .sound (grown-clear n s l e h above) l (grown-holds n s l e h above) .done room in
-        (ap placedSays (p .is) ∙ spare-says (p .answer) ∙ ap spared (r .0) ∙ rw same, r .1 ∙ rw same)
+        (ap placedSays (p .is) ∙ spare-says (p .answer) ∙ ap (saidIn 1) (r .0) ∙ rw same, r .1 ∙ rw same)
 
     grew : (y : SoundOf n s) × GrowsTo n (y .held) d (rebuilt.Filter g) m
     grew = not-refused _ _ _ _ s _ _ w (λ k z. let x : _≡_ {A = ℕ} 0 1 = cc (z .0) in omega arith)
@@ -221,20 +228,25 @@ module _ (n : Numbers) (hash most : ℕ) (s d : List ℕ) (z : Inserted) (t : Li
   pub spared-quick : InsertQuick n hash most s z t → InsertSpareQuick n hash most s d a t e
   spared-quick i = record { early = early (i .early); sound = λ c l h. places l c h (i .sound c l h); other = leaves z w (i .other) }
     where
-      leaves : (z : Inserted) → MovesIfFull n hash most t d z a e → InsertLeaves n s z t → SpareLeaves n s d a t e
+      leaves : (z : Inserted) → MovesIfFull n hash most t d z a e → InsertLeaves n most s z t → SpareLeaves n most s d a t e
       leaves (inserted.Counted m after) w i = record {
         inside = i .0;
         whole = λ _. w .1;
         refused = λ k x. let y = ap placedSays (w .0) in let v : _≡_ {A = ℕ} 0 1 = cc in absurd (omega arith);
         within = subst (PlacedWithin n s) (sym (w .0)) (i .2);
+        looks = λ x c. (ap placedSays (w .0) ∙ ap (saidIn 0) (i .3 x c .0), i .3 x c .1, w .1);
       }
       leaves (inserted.Refused k) w i = go (ℕ-discrete k 7)
         where
           same : t ≡ s
           same = i .1 k refl
 
-          go : Dec (k ≡ 7) → SpareLeaves n s d a t e
+          -- it is not refused with max_count 0
+          never : {P : Type 0} → most ≡ 0 → lowestDue n s ≡ 0 → P
+          never x c = let y = i .3 x c .0 in let v : _≡_ {A = ℕ} 0 1 = cc in absurd (omega arith)
+
+          go : Dec (k ≡ 7) → SpareLeaves n most s d a t e
           go (yes y) =
               let worked : MovesWorked n hash most s d a e = subst (λ (x : List ℕ). MovesWorked n hash most x d a e) same (w .1 y) in
-              record { inside = i .0; whole = worked .whole; refused = λ j x. (same, worked .refused j x); within = worked .within }
-          go (no y) = record { inside = i .0; whole = λ _. w .0 y .1; refused = λ _ _. (same, w .0 y .1); within = subst (PlacedWithin n s) (sym (w .0 y .0)) tt }
+              record { inside = i .0; whole = worked .whole; refused = λ j x. (same, worked .refused j x); within = worked .within; looks = never }
+          go (no y) = record { inside = i .0; whole = λ _. w .0 y .1; refused = λ _ _. (same, w .0 y .1); within = subst (PlacedWithin n s) (sym (w .0 y .0)) tt; looks = never }

@@ -9,7 +9,7 @@ use lib.Seq.{drop-cons, drop-length}
 use Rattle.theory.specs.Answer.{Answer, values}
 use Rattle.theory.specs.Shape.{capacity, blocks, fingerprint}
 use Rattle.theory.specs.Holding.{copies}
-use Rattle.theory.specs.Changing.{allowed, upTo, insertDue, inserted}
+use Rattle.theory.specs.Changing.{upTo, insertDue, inserted}
 use Rattle.theory.specs.number.Bytes.{le}
 use Rattle.theory.specs.images.Block.{tailAt}
 use Rattle.theory.specs.list.More.{more-length}
@@ -32,7 +32,7 @@ SameTail h s t = tailAt (h .rbits) (blocks (h .qbits)) (le t) ≡ tailAt (h .rbi
 
 -- what the destination holds after a list was taken into one that held a
 abbrev pub takenIn : Shape → ℕ → List ℕ → List ℕ → List ℕ
-takenIn h most a b = addedUpTo (allowed most) a (map (fingerprint (h .qbits) (h .rbits)) b)
+takenIn h most a b = addedUpTo most a (map (fingerprint (h .qbits) (h .rbits)) b)
 
 -- if both show a list, and all fit, then all are taken in; and on any buffer the last eight bytes stay
 pub record TakesIn (h : Shape) (s : List ℕ) (count : ℕ) (h′ : Shape) (d : List ℕ) (len most a : ℕ) (t : List ℕ) : Type 0 where
@@ -85,18 +85,18 @@ module _ (h : Shape) (len most : ℕ) (s : List ℕ) where
 
 -- a buffer that shows l then shows l with f inserted, if there is room or none is needed
 module _ (h : Shape) (len f most : ℕ) (l s t : List ℕ) (z : Insertion) (c : InsertsCore h len f most s z t) (w : Shows h s l) (e : len ≡ length l)
-    (room : copies (fingerprint (h .qbits) (h .rbits) f) l < allowed most → len < capacity (h .qbits)) where
+    (room : copies (fingerprint (h .qbits) (h .rbits) f) l < most → len < capacity (h .qbits)) where
   abbrev cut : ℕ
   cut = fingerprint (h .qbits) (h .rbits) f
 
   due : insertDue (capacity (h .qbits)) most cut l ≡ 0
-  due = go (decLe (allowed most) (copies cut l))
+  due = go (decLe most (copies cut l))
     where
-      go : Dec (allowed most ≤ copies cut l) → insertDue (capacity (h .qbits)) most cut l ≡ 0
+      go : Dec (most ≤ copies cut l) → insertDue (capacity (h .qbits)) most cut l ≡ 0
       go (yes y) = enough-due (capacity (h .qbits)) most cut l y
       go (no y) = room-due (capacity (h .qbits)) most cut l (omega (arith, room (omega arith)))
 
-  pub put-shows : Shows h t (upTo (allowed most) cut l) × (heldAfter len z ≡ length (upTo (allowed most) cut l))
+  pub put-shows : Shows h t (upTo most cut l) × (heldAfter len z ≡ length (upTo most cut l))
   unfolding inserted
   put-shows =
       let r = c .right l w (sym e) .done due in
@@ -153,21 +153,20 @@ module _ (h : Shape) (s : List ℕ) (count : ℕ) (h′ : Shape) (d₀ : List �
         next : (l b : List ℕ) → Shows h s b → length (takenIn h′ most l b) ≤ capacity (h′ .qbits)
             → Taking h b h′ most (takenIn h′ most l b) left held p d → Taking h b h′ most (takenIn h′ most l b) (left - 1) held′ (st .place) t
         next l b w room g =
-            let C = allowed most in
             let lt : g .k < length b = omega (arith, g .behind) in
             let f = getD b (g .k) 0 in
             let c = fingerprint (h′ .qbits) (h′ .rbits) f in
             let is : st ≡ stepped (step.Fingerprint f) (placeOf (h .qbits) (h .rbits) b (suc (g .k))) = goes .right b w (g .k) (g .at) ∙ step-some (h .qbits) (h .rbits) b (g .k) lt in
             let pt = puts .right f (ap (λ (z : Stepped). z .step) is) in
-            let on : takenIn h′ most (upTo C c (g .l)) (drop (suc (g .k)) b) ≡ takenIn h′ most l b = ap (takenIn h′ most (g .l)) (sym (drop-cons b (g .k) 0 lt)) ∙ g .rest in
-            let up : length (upTo C c (g .l)) ≤ length (takenIn h′ most l b) = omega (arith, up-to-grows C (upTo C c (g .l)) (map (fingerprint (h′ .qbits) (h′ .rbits)) (drop (suc (g .k)) b)), ap length on) in
-            let free : copies c (g .l) < C → held < capacity (h′ .qbits) = λ y.
-            let one = up-to-more C c (g .l) y in
+            let on : takenIn h′ most (upTo most c (g .l)) (drop (suc (g .k)) b) ≡ takenIn h′ most l b = ap (takenIn h′ most (g .l)) (sym (drop-cons b (g .k) 0 lt)) ∙ g .rest in
+            let up : length (upTo most c (g .l)) ≤ length (takenIn h′ most l b) = omega (arith, up-to-grows most (upTo most c (g .l)) (map (fingerprint (h′ .qbits) (h′ .rbits)) (drop (suc (g .k)) b)), ap length on) in
+            let free : copies c (g .l) < most → held < capacity (h′ .qbits) = λ y.
+            let one = up-to-more most c (g .l) y in
             omega (arith, up, ap length one, more-length c (g .l), g .many) in
             let shown = put-shows h′ held f most (g .l) d t (pt .answer) (pt .core) (g .shows) (g .many) free in
             record {
               k = suc (g .k);
-              l = upTo C c (g .l);
+              l = upTo most c (g .l);
               behind = omega (arith, g .behind);
               at = ap (λ (z : Stepped). z .place) is;
               shows = shown .0;

@@ -58,7 +58,7 @@ fn move_if_full(
     }
 }
 
-// One copy more in the old buffer, or, where it is full, in the spare that it grew into; or number 1 to 6, 7, then 12.
+// One copy more, if fewer than max_count are held: in the old buffer, or, where it is full, in the spare that it grew into; or number 1 to 6, 7, then 12.
 pub fn insert_with_spare(
     buf: &mut [u8],
     n: Numbers,

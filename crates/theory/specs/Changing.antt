@@ -1,5 +1,5 @@
--- The rules of insert and remove on the list held; every promise of an insert or a remove cites them. f is the fingerprint, l the list.
-use Prim.Native.Nat.{ℕ, max, min}
+-- The rules of insert and remove on the list held; every promise of an insert or a remove cites them. f is the fingerprint, l the list, most is max_count.
+use Prim.Native.Nat.{ℕ, min}
 use mathlib.Core.List.{List}
 use native.Mathlib.Decide.{decLe}
 use lib.ListN.{length}
@@ -12,10 +12,6 @@ pub record Rule : Type 0 where
   pub answer : List ℕ → ℕ
   pub held : List ℕ → List ℕ
 
--- how many copies an insert asked with max_count lets be: one at least
-unfoldable pub allowed : ℕ → ℕ
-allowed most = max 1 most
-
 -- one copy more, unless c are held
 unfoldable pub upTo : ℕ → ℕ → List ℕ → List ℕ
 upTo c f l = choose (decLe c (copies f l)) l (more f l)
@@ -23,15 +19,15 @@ upTo c f l = choose (decLe c (copies f l)) l (more f l)
 -- ---- insert
 -- 7: a copy more is due, and len is at capacity
 unfoldable pub insertDue : ℕ → ℕ → ℕ → List ℕ → ℕ
-insertDue capacity most f l = choose (decLe (allowed most) (copies f l)) 0 (choose (decLe capacity (length l)) 7 0)
+insertDue capacity most f l = choose (decLe most (copies f l)) 0 (choose (decLe capacity (length l)) 7 0)
 
--- the answer: the smaller of the copies held and those allowed
+-- the answer: the smaller of the copies held and max_count
 unfoldable pub insertAnswer : ℕ → ℕ → List ℕ → ℕ
-insertAnswer most f l = min (copies f l) (allowed most)
+insertAnswer most f l = min (copies f l) most
 
 -- what is held afterwards
 unfoldable pub inserted : ℕ → ℕ → List ℕ → List ℕ
-inserted most f l = upTo (allowed most) f l
+inserted most f l = upTo most f l
 
 abbrev pub insertRule : ℕ → ℕ → ℕ → Rule
 insertRule capacity most f = record { due = insertDue capacity most f; answer = insertAnswer most f; held = inserted most f }

@@ -1,5 +1,5 @@
 -- The core of insert keeps the rule of the theory, Changing, on a buffer that shows a list.
-use Prim.Native.Nat.{ℕ, suc, _+_, _*_, _/_, _%_, _^_, _≤_, _<_, max}
+use Prim.Native.Nat.{ℕ, suc, _+_, _*_, _/_, _%_, _^_, _≤_, _<_}
 use mathlib.Core.Path.{_≡_, refl, sym, ap, _∙_}
 use mathlib.Core.List.{List}
 use native.Mathlib.Omega.{arith}
@@ -8,7 +8,7 @@ use lib.Pow.{pow-pos}
 use Rattle.theory.specs.Shape.{slots, capacity, blocks, fingerprint}
 use Rattle.theory.specs.Answer.{Answer, gives, refuses}
 use Rattle.theory.specs.Holding.{copies, more, run}
-use Rattle.theory.specs.Changing.{allowed, insertDue, insertAnswer, inserted}
+use Rattle.theory.specs.Changing.{insertDue, insertAnswer, inserted}
 use Rattle.theory.specs.Image.{Views, many}
 use Rattle.theory.specs.carry.Carry.{FirstFree, first-free}
 use Rattle.theory.specs.list.Seek.{copies-run}
@@ -53,11 +53,12 @@ Below h len (Added m) = len < capacity (h .qbits)
 Below h len (Enough c) = Unit {0}
 Below h len (Refused k) = Unit {0}
 
--- and on any buffer the last eight bytes stay, what is refused has changed nothing, and a copy is added only below capacity
+-- and on any buffer the last eight bytes stay, what is refused has changed nothing, a copy is added only below capacity, and with max_count 0 the answer is 0 and nothing changes
 pub record InsertsCore (h : Shape) (len hash most : ℕ) (s : List ℕ) (a : Insertion) (t : List ℕ) : Type 0 where
   pub right : (l : List ℕ) → Shows h s l → length l ≡ len → InsertsAs h len (fingerprint (h .qbits) (h .rbits) hash) most l s a t
   pub kept : (k : ℕ) → a ≡ Refused k → t ≡ s
   pub below : Below h len a
+  pub looks : most ≡ 0 → (a ≡ Enough 0) × (t ≡ s)
   pub tail : tailAt (h .rbits) (blocks (h .qbits)) (le t) ≡ tailAt (h .rbits) (blocks (h .qbits)) (le s)
 
 -- how the code comes to it
@@ -69,7 +70,7 @@ same-answer e f = λ i. gives (coreAnswer (e i) (f i))
 
 module _ (h : Shape) (low : 6 ≤ h .qbits) (s : List ℕ) (len hash most x rem : ℕ) (p : Spot)
     (ex : x ≡ fingerprint (h .qbits) (h .rbits) hash / 2 ^ h .rbits) (b : x < slots (h .qbits)) (er : rem ≡ fingerprint (h .qbits) (h .rbits) hash % 2 ^ h .rbits)
-    (sp : SpotFor h s x rem p) (c : ℕ) (ec : c ≡ max 1 most) where
+    (sp : SpotFor h s x rem p) where
   abbrev f : ℕ
   f = fingerprint (h .qbits) (h .rbits) hash
 
@@ -85,33 +86,34 @@ module _ (h : Shape) (low : 6 ≤ h .qbits) (s : List ℕ) (len hash most x rem 
   abbrev cap : ℕ
   cap = capacity (h .qbits)
 
-  asked : c ≡ allowed most
-  unfolding allowed
-  asked = ec
-
   spot : (l : List ℕ) → Shows h s l → SpotIn m (counts l) (f / 2 ^ h .rbits) (f % 2 ^ h .rbits) (run (2 ^ h .rbits) l (f / 2 ^ h .rbits)) p
   spot l w = rw (ex, er) at (sp .right l w)
 
   counted-all : (l : List ℕ) → Shows h s l → p .copies ≡ copies f l
   counted-all l w = spot l w .met ∙ sym (copies-run (2 ^ h .rbits) (pow-pos (h .rbits)) f l)
 
-  pub core-enough : c ≤ p .copies → InsertsCore h len hash most s (Enough c) s
+  pub core-enough : most ≤ p .copies → InsertsCore h len hash most s (Enough most) s
   core-enough q = record {
     right = λ l w n.
-        let enough : allowed most ≤ copies f l = omega (arith, asked, counted-all l w) in
+        let enough : most ≤ copies f l = omega (arith, counted-all l w) in
         let held = enough-held cap most f l enough in
         record {
           refused = λ z. absurd (omega (arith, enough-due cap most f l enough));
-          done = λ _. (same-answer (asked ∙ sym (enough-answer cap most f l enough)) (sym n ∙ ap length (sym held)), rw held w);
+          done = λ _. (same-answer (sym (enough-answer cap most f l enough)) (sym n ∙ ap length (sym held)), rw held w);
         };
     kept = λ k z. refl;
     below = tt;
+    looks = λ z. (ap Enough z, refl);
     tail = refl;
   }
 
-  module _ (q : p .copies < c) where
-    fewer-held : (l : List ℕ) → Shows h s l → copies f l < allowed most
-    fewer-held l w = omega (arith, asked, counted-all l w)
+  module _ (q : p .copies < most) where
+    fewer-held : (l : List ℕ) → Shows h s l → copies f l < most
+    fewer-held l w = omega (arith, counted-all l w)
+
+    -- max_count is not 0
+    not-zero : {P : Type 0} → most ≡ 0 → P
+    not-zero z = absurd (omega arith)
 
     pub core-full : capacity (h .qbits) ≤ len → InsertsCore h len hash most s (Refused 7) s
     core-full y = record {
@@ -120,6 +122,7 @@ module _ (h : Shape) (low : 6 ≤ h .qbits) (s : List ℕ) (len hash most x rem 
           record { refused = λ _. (ap refuses (sym due), refl); done = λ z. absurd (omega arith) };
       kept = λ k z. refl;
       below = tt;
+      looks = not-zero;
       tail = refl;
     }
 
@@ -128,7 +131,7 @@ module _ (h : Shape) (low : 6 ≤ h .qbits) (s : List ℕ) (len hash most x rem 
     free l w = first-free m (counts l) (shown-runs h s l w x b .round) x
 
     damaged : ((l : List ℕ) → Shows h s l → ⊥) → InsertsCore h len hash most s (Refused 6) s
-    damaged never = record { right = λ l w n. absurd (never l w); kept = λ k z. refl; below = tt; tail = refl }
+    damaged never = record { right = λ l w n. absurd (never l w); kept = λ k z. refl; below = tt; looks = not-zero; tail = refl }
 
     pub core-missed : FreeFrom m v x Nothing → InsertsCore h len hash most s (Refused 6) s
     core-missed k = damaged (λ l w. let z : _≡_ {A = ℕ} 0 1 = cc (k .right (counts l) (shown-runs h s l w x b) (w .image .offsets) (free l w)) in omega arith)
@@ -173,5 +176,6 @@ module _ (h : Shape) (low : 6 ≤ h .qbits) (s : List ℕ) (len hash most x rem 
               };
           kept = λ k z. let y : _≡_ {A = ℕ} 0 1 = cc in absurd (omega arith);
           below = room-left;
+          looks = not-zero;
           tail = tail-was (h .rbits) m (blocks (h .qbits)) x (p .slot) (p .«bit_slot») e rem (p .bit) (le s) (le t) (slots-blocks (h .qbits) low) b y;
         }

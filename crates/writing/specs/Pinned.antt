@@ -1,13 +1,16 @@
 -- What the promises of insert and remove pin down: any two outcomes (the answer with its record, and every lent byte) that keep the promise coincide. Checked calls: for all inputs.
--- Quick calls: where a number 1 to 5 is due or the buffer is sound, and there they equal the checked ones. What is left open is in docs/EXCEPTIONS.md. Assumes nothing.
-use Prim.Native.Nat.{ℕ}
+-- Quick calls: where a number 1 to 5 is due or the buffer is sound, and there they equal the checked ones; an insert with max_count 0 also on every
+-- other buffer, though there the checked one gives 6. What is left open is in docs/EXCEPTIONS.md. Assumes nothing.
+use Prim.Native.Nat.{ℕ, _<_}
 use mathlib.Core.Path.{_≡_}
+use mathlib.Core.Logic.{_⊎_, inl, inr}
 use mathlib.Core.List.{List}
+use native.Mathlib.Nat.{eq-zero-or-pos}
 use Rattle.theory.specs.Answer.{Answer, refuses}
 use Rattle.theory.specs.Changing.{Rule}
 use Rattle.theory.specs.refusals.Demands.{checked-one, quick-one, quick-checked}
 use Rattle.layout.specs.declared.numbers.Numbers.{Numbers}
-use Rattle.layout.specs.Records.{Changed}
+use Rattle.layout.specs.Records.{Changed, lowestDue}
 use Rattle.layout.specs.Outcomes.{Settled, alike, apart, leaves-one}
 use Rattle.writing.specs.declared.writers.Inserted.{Inserted}
 use Rattle.writing.specs.declared.writers.Removed.{Removed}
@@ -40,17 +43,26 @@ module _ {E : Type 0} (says : E → Answer Changed) (tells : (a b : E) → says 
       turn-quick-checked p q = apart (a, t) (b, u) (quick-checked No Right _ _ _ _ s no-one (λ l _. right-one l) left d (a, t) (b, u) p q)
 
 -- ---- insert
+-- where a quick insert leaves nothing open
+abbrev pub InsertSettled : Numbers → ℕ → List ℕ → Type 0
+InsertSettled n most s = Settled n s ⊎ (most ≡ 0)
+
 module _ (n : Numbers) (hash most : ℕ) (s : List ℕ) (a b : Inserted) (t u : List ℕ) where
   pub insert-fingerprint-counting-pinned : Insert n hash most s a t → Insert n hash most s b u → (a ≡ b) × (t ≡ u)
   insert-fingerprint-counting-pinned = turn-pinned insertedSays inserted-tells n (inserting n hash most) s a b t u
 
-  pub insert-fingerprint-counting-quick-pinned : Settled n s → InsertQuick n hash most s a t → InsertQuick n hash most s b u → (a ≡ b) × (t ≡ u)
-  insert-fingerprint-counting-quick-pinned =
-      quick-turn-pinned insertedSays inserted-tells n (inserting n hash most) s a b t u (λ x. InsertLeaves n s (x .0) (x .1))
+  pub insert-fingerprint-counting-quick-pinned : InsertSettled n most s → InsertQuick n hash most s a t → InsertQuick n hash most s b u → (a ≡ b) × (t ≡ u)
+  insert-fingerprint-counting-quick-pinned (inl d) p q =
+      quick-turn-pinned insertedSays inserted-tells n (inserting n hash most) s a b t u (λ x. InsertLeaves n most s (x .0) (x .1)) d p q
+  insert-fingerprint-counting-quick-pinned (inr z) p q = apart (a, t) (b, u) (go (eq-zero-or-pos (lowestDue n s)))
+    where
+      go : (lowestDue n s ≡ 0) ⊎ (0 < lowestDue n s) → _≡_ {A = Inserted × List ℕ} (a, t) (b, u)
+      go (inl c) = alike insertedSays inserted-tells (a, t) (b, u) (p .other .3 z c) (q .other .3 z c)
+      go (inr h) = alike insertedSays inserted-tells (a, t) (b, u) (p .early h) (q .early h)
 
   -- on every sound buffer, and where a number 1 to 5 is due, quick equals checked
   pub insert-quick-checked : Settled n s → InsertQuick n hash most s a t → Insert n hash most s b u → (a ≡ b) × (t ≡ u)
-  insert-quick-checked = turn-quick-checked insertedSays inserted-tells n (inserting n hash most) s a b t u (λ x. InsertLeaves n s (x .0) (x .1))
+  insert-quick-checked = turn-quick-checked insertedSays inserted-tells n (inserting n hash most) s a b t u (λ x. InsertLeaves n most s (x .0) (x .1))
 
 -- ---- remove
 module _ (n : Numbers) (hash : ℕ) (s : List ℕ) (a b : Removed) (t u : List ℕ) where

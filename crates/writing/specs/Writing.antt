@@ -59,6 +59,10 @@ removing n hash = removeRule (fingerprintOf n hash)
 abbrev pub Insert : Numbers → ℕ → ℕ → List ℕ → Inserted → List ℕ → Type 0
 Insert n hash most s a t = TurnsOn n (inserting n hash most) s (insertedSays a) t
 
+-- nothing is added: the answer is 0, the record is the one given, and every byte stays
+abbrev pub Untouched : Numbers → List ℕ → Inserted → List ℕ → Type 0
+Untouched n s a t = (insertedSays a ≡ gives (changed 0 n)) × (t ≡ s)
+
 -- on any buffer a quick writer keeps the length and the last eight bytes
 pub record Inside (s t : List ℕ) : Type 0 where
   pub size : length t ≡ length s
@@ -69,12 +73,12 @@ abbrev pub ChangedWithin : Numbers → Answer Changed → Type 0
 ChangedWithin n (gives c) = Keeps n (c .numbers)
 ChangedWithin n (refuses k) = Unit {0}
 
--- a quick insert does both, and one that is refused has changed nothing
-abbrev pub InsertLeaves : Numbers → List ℕ → Inserted → List ℕ → Type 0
-InsertLeaves n s a t = Inside s t × ((k : ℕ) → insertedSays a ≡ refuses k → t ≡ s) × ChangedWithin n (insertedSays a)
+-- a quick insert does both; one that is refused has changed nothing; and with max_count 0, where none of 1 to 5 is due, it answers 0 and everything stays as it was
+abbrev pub InsertLeaves : Numbers → ℕ → List ℕ → Inserted → List ℕ → Type 0
+InsertLeaves n most s a t = Inside s t × ((k : ℕ) → insertedSays a ≡ refuses k → t ≡ s) × ChangedWithin n (insertedSays a) × (most ≡ 0 → lowestDue n s ≡ 0 → Untouched n s a t)
 
 abbrev pub InsertQuick : Numbers → ℕ → ℕ → List ℕ → Inserted → List ℕ → Type 0
-InsertQuick n hash most s a t = TurnsQuick n (inserting n hash most) s (insertedSays a) t (InsertLeaves n s a t)
+InsertQuick n hash most s a t = TurnsQuick n (inserting n hash most) s (insertedSays a) t (InsertLeaves n most s a t)
 
 -- ---- remove
 abbrev pub Remove : Numbers → ℕ → List ℕ → Removed → List ℕ → Type 0
@@ -90,7 +94,7 @@ RemoveQuick n hash s a t = TurnsQuick n (removing n hash) s (removedSays n a) t 
 -- ---- how the code comes to it
 pub record InsertWorked (n : Numbers) (hash most : ℕ) (s : List ℕ) (a : Inserted) (t : List ℕ) : Type 0 where
   pub right : (l : List ℕ) → HoldsOf n s l → Turns n (inserting n hash most) l s (insertedSays a) t
-  pub inside : InsertLeaves n s a t
+  pub inside : InsertLeaves n most s a t
 
 pub inside-same : (s : List ℕ) → Inside s s
 inside-same s = record { size = refl; tail = refl }
@@ -144,7 +148,12 @@ insert-worked n hash most s t a e bs bt len c = record {
         refused = λ z. (inserted-says n a ∙ ap (recorded n) (w .refused z .0), w .refused z .1);
         done = λ z. (inserted-says n a ∙ ap (recorded n) (w .done z .0), shows-image n s t e bs bt len (c .tail) l (inserted most (fingerprintOf n hash) l) h (w .done z .1));
       };
-  inside = (stays-inside n s t e bs bt len (c .tail), (λ k z. c .kept k (refused-core n a k z)), inserted-within n (clear-within n s e) a (c .below));
+  inside = (
+    stays-inside n s t e bs bt len (c .tail),
+    (λ k z. c .kept k (refused-core n a k z)),
+    inserted-within n (clear-within n s e) a (c .below),
+    (λ z _. (ap (λ (x : Insertion). insertedSays (insertedFrom n x)) (c .looks z .0), c .looks z .1)),
+  );
 }
 
 pub record RemoveWorked (n : Numbers) (hash : ℕ) (s : List ℕ) (a : Removed) (t : List ℕ) : Type 0 where

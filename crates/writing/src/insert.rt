@@ -9,7 +9,6 @@ ghost use Rattle.writing.specs.CopyIn.{Scanned, SpotFor};
 ghost use Rattle.writing.specs.Insert.{InsertsCore};
 use crate::shift;
 use bits::compare::equal;
-use bits::compare::larger;
 use bits::select::Found;
 use filter::lookup::quotient;
 use filter::lookup::remainder;
@@ -125,9 +124,8 @@ pub fn insert_core(buf: &mut [u8], shape: Shape, len: u64, hash: u64, max_count:
     let x = quotient(shape, hash);
     let rem = remainder(shape, hash);
     let spot = find_spot(buf, shape, x, rem);
-    let most = larger(1, max_count);
-    if most <= spot.copies {
-        return Insertion::Enough(most);
+    if max_count <= spot.copies {
+        return Insertion::Enough(max_count);
     }
     if shape.capacity() <= len {
         return Insertion::Refused(7);

@@ -31,7 +31,7 @@ fn insert_worked(buf: &mut [u8], n: Numbers, hash: u64, max_count: u64) -> Inser
     }
 }
 
-// One copy more of the fingerprint of a hash, if fewer than max(1, max_count) are held; the answer is the smaller of the two. The whole buffer is checked first.
+// One copy more of the fingerprint of a hash, if fewer than max_count are held; the answer is the smaller of the two. The whole buffer is checked first.
 pub fn insert_fingerprint_counting(
     buf: &mut [u8],
     n: Numbers,

@@ -18,13 +18,13 @@ pub fn fresh(widths: Widths, buf: &mut [u8]) -> Changed {
     unsafe { strumblay_fresh(qbits, rbits, max_qbits, buf.as_mut_ptr(), buf.len()) }
 }
 
-/// One copy more, checked; answers the copies held before, max(1, max_count) at most.
+/// One copy more if fewer than max_count are held, checked; answers the smaller of the two.
 #[inline]
 pub fn insert(buf: &mut [u8], n: Numbers, hash: u64, max_count: u64) -> Changed {
     unsafe { strumblay_insert(buf.as_mut_ptr(), buf.len(), n, hash, max_count) }
 }
 
-/// One copy more, quick; answers the copies held before, max(1, max_count) at most.
+/// One copy more if fewer than max_count are held, quick; answers the smaller of the two.
 #[inline]
 pub fn insert_quick(buf: &mut [u8], n: Numbers, hash: u64, max_count: u64) -> Changed {
     unsafe { strumblay_insert_quick(buf.as_mut_ptr(), buf.len(), n, hash, max_count) }

@@ -64,7 +64,7 @@ pub fn merge(
     }
 }
 
-/// One copy more, checked, in `spare` if it must grow; answers the copies held before, max(1, max_count) at most.
+/// As `insert`, in `spare` if it must grow.
 #[inline]
 pub fn insert_spare(
     buf: &mut [u8],
@@ -77,7 +77,7 @@ pub fn insert_spare(
     unsafe { strumblay_insert_spare(old, buf.len(), n, hash, max_count, new, spare.len()) }
 }
 
-/// One copy more, quick, in `spare` if it must grow; answers the copies held before, max(1, max_count) at most.
+/// As `insert_quick`, in `spare` if it must grow.
 #[inline]
 pub fn insert_spare_quick(
     buf: &mut [u8],

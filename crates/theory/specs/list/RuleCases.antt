@@ -8,7 +8,7 @@ use native.Mathlib.Decide.{decLe, ℕ-discrete}
 use lib.ListN.{length}
 use Rattle.theory.specs.tools.Choose.{choose, choose-by, choose-yes, choose-no}
 use Rattle.theory.specs.Holding.{copies, more, fewer}
-use Rattle.theory.specs.Changing.{allowed, upTo, insertDue, insertAnswer, inserted, removeAnswer}
+use Rattle.theory.specs.Changing.{upTo, insertDue, insertAnswer, inserted, removeAnswer}
 use Rattle.theory.specs.list.Copies.{copies-eq, copies-other}
 
 -- ---- one copy more, unless c are held
@@ -25,31 +25,26 @@ unfolding upTo
 up-to-more c f l h = choose-no (decLe c (copies f l)) l (more f l) (λ z. omega arith)
 
 -- ---- insert
--- as many as are asked for are allowed
-pub allowed-high : (most : ℕ) → most ≤ allowed most
-unfolding allowed
-allowed-high most = omega arith
-
 module _ (capacity most f : ℕ) (l : List ℕ) where
   -- enough copies are held
-  module _ (h : allowed most ≤ copies f l) where
+  module _ (h : most ≤ copies f l) where
     pub enough-due : insertDue capacity most f l ≡ 0
     unfolding insertDue
-    enough-due = choose-yes (decLe (allowed most) (copies f l)) 0 _ h
+    enough-due = choose-yes (decLe most (copies f l)) 0 _ h
 
-    pub enough-answer : insertAnswer most f l ≡ allowed most
+    pub enough-answer : insertAnswer most f l ≡ most
     unfolding insertAnswer
     enough-answer = omega arith
 
     pub enough-held : inserted most f l ≡ l
     unfolding inserted
-    enough-held = up-to-enough (allowed most) f l h
+    enough-held = up-to-enough most f l h
 
   -- a copy more is due
-  module _ (h : copies f l < allowed most) where
+  module _ (h : copies f l < most) where
     asked : insertDue capacity most f l ≡ choose (decLe capacity (length l)) 7 0
     unfolding insertDue
-    asked = choose-no (decLe (allowed most) (copies f l)) 0 _ (λ z. omega arith)
+    asked = choose-no (decLe most (copies f l)) 0 _ (λ z. omega arith)
 
     pub full-due : capacity ≤ length l → insertDue capacity most f l ≡ 7
     full-due b = asked ∙ choose-yes (decLe capacity (length l)) 7 0 b
@@ -60,28 +55,28 @@ module _ (capacity most f : ℕ) (l : List ℕ) where
 
     pub more-held : inserted most f l ≡ more f l
     unfolding inserted
-    more-held = up-to-more (allowed most) f l h
+    more-held = up-to-more most f l h
 
   -- there is room
   pub room-due : length l < capacity → insertDue capacity most f l ≡ 0
   unfolding insertDue
   room-due b =
-      choose-by (λ z. z ≡ 0) (decLe (allowed most) (copies f l)) (λ _. refl) (λ _. choose-no (decLe capacity (length l)) 7 0 (λ z. omega arith))
+      choose-by (λ z. z ≡ 0) (decLe most (copies f l)) (λ _. refl) (λ _. choose-no (decLe capacity (length l)) 7 0 (λ z. omega arith))
 
   -- where 7 is not due, enough copies are held or there is room
   pub due-none : insertDue capacity most f l ≡ 0 → (inserted most f l ≡ l) ⊎ ((inserted most f l ≡ more f l) × (length l < capacity))
-  due-none e = go (decLe (allowed most) (copies f l)) (decLe capacity (length l))
+  due-none e = go (decLe most (copies f l)) (decLe capacity (length l))
     where
-      go : Dec (allowed most ≤ copies f l) → Dec (capacity ≤ length l) → (inserted most f l ≡ l) ⊎ ((inserted most f l ≡ more f l) × (length l < capacity))
+      go : Dec (most ≤ copies f l) → Dec (capacity ≤ length l) → (inserted most f l ≡ l) ⊎ ((inserted most f l ≡ more f l) × (length l < capacity))
       go (yes h) d = inl (enough-held h)
       go (no h) (yes b) = absurd (omega (arith, full-due (omega arith) b))
       go (no h) (no b) = inr (more-held (omega arith), omega arith)
 
   -- where a number is due, it is 7: a copy more is due and there is no room
-  pub due-some : 0 < insertDue capacity most f l → (insertDue capacity most f l ≡ 7) × (copies f l < allowed most) × (capacity ≤ length l)
-  due-some e = go (decLe (allowed most) (copies f l)) (decLe capacity (length l))
+  pub due-some : 0 < insertDue capacity most f l → (insertDue capacity most f l ≡ 7) × (copies f l < most) × (capacity ≤ length l)
+  due-some e = go (decLe most (copies f l)) (decLe capacity (length l))
     where
-      go : Dec (allowed most ≤ copies f l) → Dec (capacity ≤ length l) → (insertDue capacity most f l ≡ 7) × (copies f l < allowed most) × (capacity ≤ length l)
+      go : Dec (most ≤ copies f l) → Dec (capacity ≤ length l) → (insertDue capacity most f l ≡ 7) × (copies f l < most) × (capacity ≤ length l)
       go (yes h) d = absurd (omega (arith, enough-due h))
       go (no h) (yes b) = (full-due (omega arith) b, omega arith, b)
       go (no h) (no b) = absurd (omega (arith, room-due (omega arith)))

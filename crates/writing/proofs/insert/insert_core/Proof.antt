@@ -15,7 +15,7 @@ use Rattle.writing.proofs.insert.insert_core.Tie as tie
 
 -- the buffer and the quotient at the place where the free slot is looked for
 abbrev Free : tie.After-first-free → Found → Type 0
-Free c a = FreeFrom (slots (c .before .before .before .before .before .before .before .before .before .before .before .before .args .shape .qbits)) (viewsIn (c .before .before .before .before .before .before .before .before .before .before .before .before .args .shape) (now (c .before .before .before .before .before .before .before .before .before .before .before .before .args .buf))) (c .before .before .before .before .before .before .before .before .before .before .quotient .result) a
+Free c a = FreeFrom (slots (c .before .before .before .before .before .before .before .before .before .before .before .args .shape .qbits)) (viewsIn (c .before .before .before .before .before .before .before .before .before .before .before .args .shape) (now (c .before .before .before .before .before .before .before .before .before .before .before .args .buf))) (c .before .before .before .before .before .before .before .before .before .quotient .result) a
 
 found : (c : tie.After-known-told) → Free (c .before .before .before) (At (c .before .e .given .0 .0))
 found c = subst (Free (c .before .before .before)) (c .before .e .given .1) (c .before .before .before .first-free .ensures)
@@ -32,19 +32,16 @@ remainder-requires c κs = search needs
 find-spot-requires : tie.Need-find-spot-requires
 find-spot-requires c κs = search needs
 
-larger-requires : tie.Need-larger-requires
-larger-requires c κs = search needs
-
 same-length : tie.Need-same-length
 same-length c = search needs
 
 returns : tie.Need-returns
 returns c =
     let k = c .before .before in
-    let s = k .before .before .before .before .before .before in
+    let s = k .before .before .before .before .before in
     let a = s .args in
-    let q = k .before .before .before .before .quotient .ensures in
-    core-enough (a .shape) (s .pre .widths .low) (now (a .buf)) (a .len) (a .hash) (a .max-count) _ _ _ (q .0) (q .1) (k .before .before .before .remainder .ensures .0) (k .before .find-spot .ensures) _ (k .larger .ensures) (c .if1 .taken)
+    let q = k .before .before .before .quotient .ensures in
+    core-enough (a .shape) (s .pre .widths .low) (now (a .buf)) (a .len) (a .hash) (a .max-count) _ _ _ (q .0) (q .1) (k .before .before .remainder .ensures .0) (k .find-spot .ensures) (omega (arith, c .if1 .taken))
 
 capacity-requires : tie.Need-capacity-requires
 capacity-requires c κs = search needs
@@ -55,10 +52,10 @@ same-length-2 c = search needs
 returns-2 : tie.Need-returns-2
 returns-2 c =
     let k = c .before .before .before .before in
-    let s = k .before .before .before .before .before .before in
+    let s = k .before .before .before .before .before in
     let a = s .args in
-    let q = k .before .before .before .before .quotient .ensures in
-    core-full (a .shape) (s .pre .widths .low) (now (a .buf)) (a .len) (a .hash) (a .max-count) _ _ _ (q .0) (q .1) (k .before .before .before .remainder .ensures .0) (k .before .find-spot .ensures) _ (k .larger .ensures) (c .before .before .if1 .left) (omega (arith, c .before .capacity .ensures .0))
+    let q = k .before .before .before .quotient .ensures in
+    core-full (a .shape) (s .pre .widths .low) (now (a .buf)) (a .len) (a .hash) (a .max-count) _ _ _ (q .0) (q .1) (k .before .before .remainder .ensures .0) (k .find-spot .ensures) (omega (arith, c .before .before .if1 .left)) (omega (arith, c .before .capacity .ensures .0))
 
 first-free-requires : tie.Need-first-free-requires
 first-free-requires c κs = search needs
@@ -76,10 +73,10 @@ returns-3 : tie.Need-returns-3
 returns-3 c =
     let i = c .before .before .before .before in
     let k = i .before .before .before .before in
-    let s = k .before .before .before .before .before .before in
+    let s = k .before .before .before .before .before in
     let a = s .args in
-    let q = k .before .before .before .before .quotient .ensures in
-    core-missed (a .shape) (s .pre .widths .low) (now (a .buf)) (a .len) (a .hash) (a .max-count) _ _ _ (q .0) (q .1) (k .before .before .before .remainder .ensures .0) (k .before .find-spot .ensures) _ (k .larger .ensures) (i .before .before .if1 .left) (missed c)
+    let q = k .before .before .before .quotient .ensures in
+    core-missed (a .shape) (s .pre .widths .low) (now (a .buf)) (a .len) (a .hash) (a .max-count) _ _ _ (q .0) (q .1) (k .before .before .remainder .ensures .0) (k .find-spot .ensures) (i .before .before .if1 .left) (missed c)
 
 same-length-4 : tie.Need-same-length-4
 same-length-4 c = search needs
@@ -88,20 +85,20 @@ returns-4 : tie.Need-returns-4
 returns-4 c =
     let i = c .before .before .before .before .before .before .before in
     let k = i .before .before .before .before in
-    let s = k .before .before .before .before .before .before in
+    let s = k .before .before .before .before .before in
     let a = s .args in
-    let q = k .before .before .before .before .quotient .ensures in
-    core-before (a .shape) (s .pre .widths .low) (now (a .buf)) (a .len) (a .hash) (a .max-count) _ _ _ (q .0) (q .1) (k .before .before .before .remainder .ensures .0) (k .before .find-spot .ensures) _ (k .larger .ensures) (i .before .before .if1 .left) _ (found (c .before .before)) (c .if3 .taken)
+    let q = k .before .before .before .quotient .ensures in
+    core-before (a .shape) (s .pre .widths .low) (now (a .buf)) (a .len) (a .hash) (a .max-count) _ _ _ (q .0) (q .1) (k .before .before .remainder .ensures .0) (k .find-spot .ensures) (i .before .before .if1 .left) _ (found (c .before .before)) (c .if3 .taken)
 
 write-in-requires : tie.Need-write-in-requires
 write-in-requires c κs =
     let t = c .before .before .before in
     let i = t .before .before .before .before .before in
     let k = i .before .before .before .before in
-    let s = k .before .before .before .before .before .before in
+    let s = k .before .before .before .before .before in
     let f = found t .bound in
-    let p = k .before .find-spot .ensures in
-    (s .pre, k .before .before .before .before .quotient .ensures .1, k .before .before .before .remainder .ensures .1, p .bit, p .low, p .order, c .before .if3 .left, omega (arith, slots-pos (s .args .shape .qbits)))
+    let p = k .find-spot .ensures in
+    (s .pre, k .before .before .before .quotient .ensures .1, k .before .before .remainder .ensures .1, p .bit, p .low, p .order, c .before .if3 .left, omega (arith, slots-pos (s .args .shape .qbits)))
 
 same-length-5 : tie.Need-same-length-5
 same-length-5 c = search needs
@@ -111,10 +108,10 @@ returns-5 c =
     let t = c .before .before .before .before .before .before in
     let i = t .before .before .before .before .before in
     let k = i .before .before .before .before in
-    let s = k .before .before .before .before .before .before in
+    let s = k .before .before .before .before .before in
     let a = s .args in
-    let q = k .before .before .before .before .quotient .ensures in
-    core-added (a .shape) (s .pre .widths .low) (now (a .buf)) (a .len) (a .hash) (a .max-count) _ _ _ (q .0) (q .1) (k .before .before .before .remainder .ensures .0) (k .before .find-spot .ensures) _ (k .larger .ensures) (i .before .before .if1 .left) _ (found t) _ (c .before .before .write-in .ensures) (omega (arith, i .before .capacity .ensures .0))
+    let q = k .before .before .before .quotient .ensures in
+    core-added (a .shape) (s .pre .widths .low) (now (a .buf)) (a .len) (a .hash) (a .max-count) _ _ _ (q .0) (q .1) (k .before .before .remainder .ensures .0) (k .find-spot .ensures) (i .before .before .if1 .left) _ (found t) _ (c .before .before .write-in .ensures) (omega (arith, i .before .capacity .ensures .0))
 
 pub insert-core-spec : {M : Type 1} → statement M
 insert-core-spec =
@@ -123,7 +120,6 @@ insert-core-spec =
     quotient-requires
     remainder-requires
     find-spot-requires
-    larger-requires
     same-length
     returns
     capacity-requires

@@ -17,7 +17,7 @@ number-due-requires : tie.Need-number-due-requires
 number-due-requires c κs = search needs
 
 returns : tie.Need-returns
-returns c = quick-refused _ _ _ _ _ _ (c .before .number-due .ensures) (c .if1 .taken) (refl, refl) (inside-same _, (λ k z. refl), tt)
+returns c = quick-refused _ _ _ _ _ _ (c .before .number-due .ensures) (c .if1 .taken) (refl, refl) (inside-same _, (λ k z. refl), tt, (λ _ z. absurd (omega (arith, c .before .number-due .ensures, c .if1 .taken))))
 
 insert-worked-requires : tie.Need-insert-worked-requires
 insert-worked-requires c κs = search needs
