@@ -55,8 +55,8 @@ strumblay-plan-pinned initial most rate = shown-one (PlannedAs initial most rate
 pub strumblay-buffer-len-pinned : (q r : ℕ) (a b : Outcome) → planning.LengthOutcome q r a → planning.LengthOutcome q r b → a ≡ b
 strumblay-buffer-len-pinned q r = shown-one (ShapedAs q r) planning.lengthOf (new-pinned q r)
 
-pub strumblay-fresh-pinned : (s : List ℕ) (q r mx : ℕ) (a b : Changed) (t u : List ℕ) → planning.FreshOutcome s q r mx a t → planning.FreshOutcome s q r mx b u → (a ≡ b) × (t ≡ u)
-strumblay-fresh-pinned s q r mx a b t u = shown-written (MadeAs s q r mx) (planning.freshOf q r mx) t u (λ x y. fresh-pinned s q r mx x y t u) a b
+pub strumblay-fresh-pinned : (s : List ℕ) (q r mx family : ℕ) (a b : Changed) (t u : List ℕ) → planning.FreshOutcome s q r mx family a t → planning.FreshOutcome s q r mx family b u → (a ≡ b) × (t ≡ u)
+strumblay-fresh-pinned s q r mx family a b t u = shown-written (MadeAs s q r mx family) (planning.freshOf q r mx family) t u (λ x y. fresh-pinned s q r mx family x y t u) a b
 
 -- ---- check, lookup and count
 module _ (n : Numbers) (s : List ℕ) where

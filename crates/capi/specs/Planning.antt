@@ -51,7 +51,7 @@ abbrev pub SpecsOutcome : ℕ → Float → Specs → Type 0
 SpecsOutcome c rate r = Shown (SpecifiedAs c rate) specsOf r
 
 abbrev pub planOf : Planned → Plan
-planOf (planned.Widths n) = record { number = 0; qbits = n .qbits; rbits = n .rbits; «max_qbits» = n .«max_qbits» }
+planOf (planned.Widths h mx) = record { number = 0; qbits = h .qbits; rbits = h .rbits; «max_qbits» = mx }
 planOf (planned.Refused k) = record { number = k; qbits = 0; rbits = 0; «max_qbits» = 0 }
 
 abbrev pub PlanOutcome : ℕ → ℕ → Float → Plan → Type 0
@@ -64,10 +64,10 @@ lengthOf (shaped.Refused k) = record { number = k; value = 0 }
 abbrev pub LengthOutcome : ℕ → ℕ → Outcome → Type 0
 LengthOutcome q r a = Shown (ShapedAs q r) lengthOf a
 
--- a refusal gives back the widths asked, with len 0
-abbrev pub freshOf : ℕ → ℕ → ℕ → Made → Changed
-freshOf q r mx (made.Fresh n) = record { number = 0; answer = 0; numbers = n }
-freshOf q r mx (made.Refused k) = record { number = k; answer = 0; numbers = emptyRecord q r mx }
+-- a refusal gives back the widths and the family asked, with len 0
+abbrev pub freshOf : ℕ → ℕ → ℕ → ℕ → Made → Changed
+freshOf q r mx family (made.Fresh n) = record { number = 0; answer = 0; numbers = n }
+freshOf q r mx family (made.Refused k) = record { number = k; answer = 0; numbers = emptyRecord q r mx family }
 
-abbrev pub FreshOutcome : List ℕ → ℕ → ℕ → ℕ → Changed → List ℕ → Type 0
-FreshOutcome s q r mx a t = Shown (λ answer. MadeAs s q r mx answer t) (freshOf q r mx) a
+abbrev pub FreshOutcome : List ℕ → ℕ → ℕ → ℕ → ℕ → Changed → List ℕ → Type 0
+FreshOutcome s q r mx family a t = Shown (λ answer. MadeAs s q r mx family answer t) (freshOf q r mx family) a

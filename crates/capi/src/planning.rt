@@ -109,11 +109,11 @@ pub extern "C" fn strumblay_plan(initial: u64, most: u64, rate: f64) -> Plan
 {
     let planned = layout::planning::plan_resizeable(initial, most, rate);
     match planned {
-        Planned::Widths(n) => Plan {
+        Planned::Widths(shape, max_qbits) => Plan {
             number: 0,
-            qbits: n.qbits,
-            rbits: n.rbits,
-            max_qbits: n.max_qbits,
+            qbits: shape.qbits,
+            rbits: shape.rbits,
+            max_qbits,
         },
         Planned::Refused(k) => Plan {
             number: k as u64,
@@ -144,10 +144,16 @@ pub extern "C" fn strumblay_buffer_len(qbits: u8, rbits: u8) -> Outcome
 
 // An empty filter in a lent buffer.
 #[no_mangle]
-pub extern "C" fn strumblay_fresh(qbits: u8, rbits: u8, max_qbits: u8, buf: &mut [u8]) -> Changed
-    ensures { λ r. ⌜ FreshOutcome (now (buf .entry)) qbits rbits «max_qbits» r (now (buf .exit)) ⌝ }
+pub extern "C" fn strumblay_fresh(
+    qbits: u8,
+    rbits: u8,
+    max_qbits: u8,
+    family: u64,
+    buf: &mut [u8],
+) -> Changed
+    ensures { λ r. ⌜ FreshOutcome (now (buf .entry)) qbits rbits «max_qbits» family r (now (buf .exit)) ⌝ }
 {
-    let made = layout::fresh::fresh(buf, qbits, rbits, max_qbits);
+    let made = layout::fresh::fresh(buf, qbits, rbits, max_qbits, family);
     match made {
         Made::Fresh(n) => Changed {
             number: 0,
@@ -157,7 +163,7 @@ pub extern "C" fn strumblay_fresh(qbits: u8, rbits: u8, max_qbits: u8, buf: &mut
         Made::Refused(k) => Changed {
             number: k as u64,
             answer: 0,
-            numbers: Numbers::empty(qbits, rbits, max_qbits),
+            numbers: Numbers::empty(qbits, rbits, max_qbits, family),
         },
     }
 }

@@ -3,7 +3,7 @@ use Prim.Native.Nat.{ℕ, suc, _<_}
 use mathlib.Core.Path.{_≡_}
 use mathlib.Core.List.{List}
 use lib.ListN.{length, getD}
-use Rattle.theory.specs.Report.{lenOf, qbitsOf, rbitsOf, maxOf}
+use Rattle.theory.specs.Report.{lenOf, qbitsOf, rbitsOf, maxOf, familyOf}
 use Rattle.theory.specs.Text.{line}
 use Rattle.layout.specs.declared.numbers.Numbers.{Numbers}
 use Rattle.layout.specs.Records.{emptyRecord, withLen, lowestDue, SoundOf, HoldsOf}
@@ -13,7 +13,7 @@ use Rattle.check_list.specs.Written.{Written}
 
 -- the numbers in front of the buffer, as one record
 abbrev pub numbersOf : List ℕ → Numbers
-numbersOf s = withLen (emptyRecord (qbitsOf s) (rbitsOf s) (maxOf s)) (lenOf s)
+numbersOf s = withLen (emptyRecord (qbitsOf s) (rbitsOf s) (maxOf s) (familyOf s)) (lenOf s)
 
 -- a step at the place of the k-th fingerprint held: its line, and the place of the next
 abbrev pub PutStep : Numbers → List ℕ → Place → List ℕ → List ℕ → Place → Type 0

@@ -23,7 +23,7 @@ use layout::shape::Shaped;
 pub const MAX_QBITS: u8 = 9;
 
 // The bytes in front of the buffer: the mark and the record.
-const HEADER: usize = 13;
+const HEADER: usize = 21;
 
 // The slots of a filter of that qbits.
 const SLOTS: usize = 1 << MAX_QBITS;
@@ -63,7 +63,8 @@ fn numbers_of(input: &[u8]) -> Numbers
     ensures { λ r. ⌜ r ≡ numbersOf (now (input .entry)) ⌝ }
 {
     let len = bits::word::read64(input, 2);
-    Numbers::empty(input[10], input[11], input[12]).with_len(len)
+    let family = bits::word::read64(input, 13);
+    Numbers::empty(input[10], input[11], input[12], family).with_len(len)
 }
 
 // The first of 13, 1 and 14 that is due, or 0.

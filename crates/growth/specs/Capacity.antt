@@ -25,8 +25,8 @@ use Rattle.growth.specs.Spare.{PlacedWithin, InsertSpare, InsertSpareQui
 use Rattle.growth.specs.Kept.{SoundIn, grown-sound, insert-spare-sound}
 use Rattle.growth.specs.Merged.{merged-sound}
 
-pub fresh-within : (s : List ℕ) (q r mx : ℕ) (n : Numbers) (t : List ℕ) → MadeAs s q r mx (Fresh n) t → Within n
-fresh-within s q r mx n t p = sound-within n t (made-sound s q r mx n t p .0)
+pub fresh-within : (s : List ℕ) (q r mx family : ℕ) (n : Numbers) (t : List ℕ) → MadeAs s q r mx family (Fresh n) t → Within n
+fresh-within s q r mx family n t p = sound-within n t (made-sound s q r mx family n t p .0)
 
 -- ---- insert and remove
 module _ (n : Numbers) (hash most : ℕ) (s : List ℕ) (m : ℕ) (n′ : Numbers) (t : List ℕ) where

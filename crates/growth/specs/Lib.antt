@@ -2,6 +2,7 @@
 pub mod Adding
 pub mod Capacity
 pub mod Counting
+pub mod Family
 pub mod Growing
 pub mod Holder
 pub mod Kept

@@ -22,7 +22,7 @@ use Rattle.theory.specs.images.Sizes.{capacity-lt}
 use Rattle.theory.specs.list.Adding.{copies-kept, copies-single, copies-added, copies-once}
 use Rattle.layout.specs.declared.numbers.Numbers.{Numbers}
 use Rattle.layout.specs.declared.shape.Shape.{Shape}
-use Rattle.layout.specs.Outcomes.{alike, apart, leaves-one, leaves-given}
+use Rattle.layout.specs.Outcomes.{alike, apart, leaves-one, leaves-given, family-one, family-given}
 use Rattle.growth.specs.declared.rebuild.Rebuilt.{Rebuilt}
 use Rattle.growth.specs.declared.rebuild.Rebuilt.the-variants.{Filter}
 use Rattle.growth.specs.Says.{rebuiltSays, rebuilt-tells}
@@ -31,14 +31,14 @@ use Rattle.theory.specs.plan.Limits.{limit-widths, joined-within}
 use Rattle.theory.specs.list.MergeLength.{none-few, own-wanted}
 use Rattle.growth.specs.MergeLists.{shows-self, shows-other}
 use Rattle.layout.specs.Records.{shapeOf, widthOf, withShape, withLen, lowestDue, SoundOf, HoldsOf, CheckedOn}
-use Rattle.growth.specs.Merging.{qbitsFor, shapeFor, MergesTo, Merges}
+use Rattle.growth.specs.Merging.{qbitsFor, shapeFor, MergesTo, Untaken, MergesOne, Merges}
 
 -- ---- no choice
 abbrev Outcome : Type 0
 Outcome = Rebuilt × List ℕ
 
 abbrev No : List ℕ → ℕ → Outcome → Type 0
-No d k x = (rebuiltSays (x .0) ≡ refuses k) × (x .1 ≡ d)
+No d k x = Untaken d (x .0) (x .1) k
 
 merges-one : (n m : Numbers) (keep : ℕ) (la lb d : List ℕ) (x y : Outcome) → MergesTo n m keep la lb d (x .0) (x .1) → MergesTo n m keep la lb d (y .0) (y .1) → x ≡ y
 merges-one n m keep la lb d x y p g = go (decLt (widthOf m) (widthOf n)) (decLt (widthOf n) (widthOf m))
@@ -48,13 +48,17 @@ merges-one n m keep la lb d x y p g = go (decLt (widthOf m) (widthOf n)) (decLt 
     go (no h) (yes z) = leaves-one rebuiltSays rebuilt-tells _ _ _ _ d x y (p .wider z) (g .wider z)
     go (no h) (no z) = leaves-one rebuiltSays rebuilt-tells _ _ _ _ d x y (p .equal (omega arith)) (g .equal (omega arith))
 
+pair-one : (n m : Numbers) (keep : ℕ) (la lb d : List ℕ) (x y : Outcome) → MergesOne n m keep la lb d (x .0) (x .1) → MergesOne n m keep la lb d (y .0) (y .1) → x ≡ y
+pair-one n m keep la lb d x y p g =
+    family-one n m (No d) (λ (z : Outcome). MergesTo n m keep la lb d (z .0) (z .1)) x p (alike rebuiltSays rebuilt-tells) (merges-one n m keep la lb d) y g
+
 -- any two outcomes that keep the promise coincide, for all inputs
 pub merge-pinned : (n : Numbers) (s : List ℕ) (m : Numbers) (o : List ℕ) (keep : ℕ) (d : List ℕ) (a b : Rebuilt) (t u : List ℕ) → Merges n s m o keep d a t → Merges n s m o keep d b u
     → (a ≡ b) × (t ≡ u)
 merge-pinned n s m o keep d a b t u p g =
     apart (a, t) (b, u)
-    (checked-one (No d) (λ la (x : Outcome). CheckedOn m o (λ k. No d k x) (λ lb. MergesTo n m keep la lb d (x .0) (x .1))) _ _ _ _ s (λ k. alike rebuiltSays rebuilt-tells)
-    (λ la _. checked-one (No d) (λ lb (x : Outcome). MergesTo n m keep la lb d (x .0) (x .1)) _ _ _ _ o (λ k. alike rebuiltSays rebuilt-tells) (λ lb _. merges-one n m keep la lb d)) (a, t) (b, u) p g)
+    (checked-one (No d) (λ la (x : Outcome). CheckedOn m o (λ k. No d k x) (λ lb. MergesOne n m keep la lb d (x .0) (x .1))) _ _ _ _ s (λ k. alike rebuiltSays rebuilt-tells)
+    (λ la _. checked-one (No d) (λ lb (x : Outcome). MergesOne n m keep la lb d (x .0) (x .1)) _ _ _ _ o (λ k. alike rebuiltSays rebuilt-tells) (λ lb _. pair-one n m keep la lb d)) (a, t) (b, u) p g)
 
 -- ---- a rebuild that is not refused: if its list is a holding of allowed widths, the filter holds it
 module _ (k : ℕ) (n : Numbers) (h : Shape) (l d : List ℕ) (x : Numbers) (t : List ℕ) (p : Lands k (withShape n h (length l)) l d (gives x) t) where
@@ -71,12 +75,13 @@ module _ (n : Numbers) (s : List ℕ) (m : Numbers) (o : List ℕ) (keep : ℕ) 
   never : (k : ℕ) → gives x ≡ refuses k → ⊥
   never k e = let z : _≡_ {A = ℕ} 0 1 = cc in omega arith
 
-  -- was one of two sound filters
-  both : (y : SoundOf n s) × (z : SoundOf m o) × MergesTo n m keep (y .held) (z .held) d (Filter x) t
+  -- was one of two sound filters of one family
+  both : (y : SoundOf n s) × (z : SoundOf m o) × (n .family ≡ m .family) × MergesTo n m keep (y .held) (z .held) d (Filter x) t
   both =
       let y = not-refused _ _ _ _ s _ _ p (λ k z. never k (z .0)) in
       let z = not-refused _ _ _ _ o _ _ (y .1) (λ k z. never k (z .0)) in
-      (y .0, z .0, z .1)
+      let w = family-given n m (λ k (c : Rebuilt). Untaken d c t k) (λ c. MergesTo n m keep (y .0 .held) (z .0 .held) d c t) (Filter x) (z .1) (λ z. never 19 (z .0)) in
+      (y .0, z .0, w .0, w .1)
 
   module _ (la lb : List ℕ) (ha : HoldsOf n s la) (hb : HoldsOf m o lb) where
     abbrev e : lowestDue n s ≡ 0
@@ -86,7 +91,7 @@ module _ (n : Numbers) (s : List ℕ) (m : Numbers) (o : List ℕ) (keep : ℕ) 
     f = both .1 .none
 
     cases : MergesTo n m keep la lb d (Filter x) t
-    cases = p .sound e la ha .sound f lb hb
+    cases = p .sound e la ha .sound f lb hb .same (both .2)
 
     under-self : Under (2 ^ widthOf n) la
     under-self = held-under (shapeOf n) s la (shows-self n s m o e f la ha)
@@ -134,9 +139,21 @@ module _ (n : Numbers) (s : List ℕ) (m : Numbers) (o : List ℕ) (keep : ℕ) 
       from l h = record { none = h .0; held = l; holds = h .1 }
 
       go : Dec (widthOf m < widthOf n) → Dec (widthOf n < widthOf m) → SoundOf x t
-      go (yes h) z = absurd (omega (arith, ap number (both .2 .narrower h .0)))
+      go (yes h) z = absurd (omega (arith, ap number (both .3 .narrower h .0)))
       go (no h) (yes z) = from _ (wider-holds la lb (both .0 .holds) (both .1 .holds) z)
       go (no h) (no z) = from _ (equal-holds la lb (both .0 .holds) (both .1 .holds) (omega arith))
+
+  -- of that family
+  pub merged-family : (n .family ≡ m .family) × (x .family ≡ n .family)
+  merged-family = (both .2, go (decLt (widthOf m) (widthOf n)) (decLt (widthOf n) (widthOf m)))
+    where
+      kept : (k : ℕ) (h : Shape) (l : List ℕ) → Lands k (withShape n h (length l)) l d (gives x) t → x .family ≡ n .family
+      kept k h l y = ap (λ (z : Numbers). z .family) (leaves-given k _ (withShape n h (length l)) l d x t y .1)
+
+      go : Dec (widthOf m < widthOf n) → Dec (widthOf n < widthOf m) → x .family ≡ n .family
+      go (yes h) z = absurd (omega (arith, ap number (both .3 .narrower h .0)))
+      go (no h) (yes z) = kept _ (shapeOf n) _ (both .3 .wider z)
+      go (no h) (no z) = kept _ (shapeFor n _) _ (both .3 .equal (omega arith))
 
 -- ---- what the result holds
 -- a list of which P says how often it has each fingerprint

@@ -10,7 +10,8 @@ use Rattle.theory.specs.Refusal.{destinationDue, orElse}
 use Rattle.theory.specs.Joining.{joined, taken, wanted, joinedQbits, joinedDue, takenDue}
 use Rattle.layout.specs.declared.numbers.Numbers.{Numbers}
 use Rattle.layout.specs.declared.shape.Shape.{Shape}
-use Rattle.layout.specs.Records.{shapeOf, widthOf, withShape, withLen, HoldsOf, CheckedBoth}
+use Rattle.layout.specs.Records.{shapeOf, widthOf, withShape, withLen, HoldsOf, CheckedBoth, OneFamily}
+use Rattle.layout.specs.Judging.{two-families, one-family}
 use Rattle.growth.specs.declared.rebuild.Rebuilt.{Rebuilt}
 use Rattle.growth.specs.declared.rebuild.Rebuilt.the-variants.{Refused}
 use Rattle.growth.specs.Says.{rebuiltSays}
@@ -42,9 +43,17 @@ pub record MergesTo (n m : Numbers) (keep : ℕ) (la lb d : List ℕ) (a : Rebui
   pub equal : widthOf m ≡ widthOf n → EqualTo n keep la lb d a t
   pub wider : widthOf n < widthOf m → WiderTo n keep la lb d a t
 
--- self's numbers 1 to 6, other's 1 to 6, then the cases; what is refused leaves the destination as it was
+-- number k is given, and the destination stays as it was
+abbrev pub Untaken : List ℕ → Rebuilt → List ℕ → ℕ → Type 0
+Untaken d a t k = (rebuiltSays a ≡ refuses k) × (t ≡ d)
+
+-- two families: 19; or one, and the cases
+abbrev pub MergesOne : Numbers → Numbers → ℕ → List ℕ → List ℕ → List ℕ → Rebuilt → List ℕ → Type 0
+MergesOne n m keep la lb d a t = OneFamily n m (Untaken d a t) (MergesTo n m keep la lb d a t)
+
+-- self's numbers 1 to 6, other's 1 to 6, then the families and the cases
 abbrev pub Merges : Numbers → List ℕ → Numbers → List ℕ → ℕ → List ℕ → Rebuilt → List ℕ → Type 0
-Merges n s m o keep d a t = CheckedBoth n s m o (λ k. (rebuiltSays a ≡ refuses k) × (t ≡ d)) (λ la lb. MergesTo n m keep la lb d a t)
+Merges n s m o keep d a t = CheckedBoth n s m o (Untaken d a t) (λ la lb. MergesOne n m keep la lb d a t)
 
 -- ---- how the code comes to it
 abbrev pub mostOf : ℕ → ℕ
@@ -71,6 +80,9 @@ MergesWider n s m o keep d a t = OfBoth n s m o (λ la lb. WiderTo n keep la lb 
 abbrev pub MergesSound : Numbers → List ℕ → Numbers → List ℕ → ℕ → List ℕ → Rebuilt → List ℕ → Type 0
 MergesSound n s m o keep d a t = OfBoth n s m o (λ la lb. MergesTo n m keep la lb d a t)
 
+abbrev pub MergesPair : Numbers → List ℕ → Numbers → List ℕ → ℕ → List ℕ → Rebuilt → List ℕ → Type 0
+MergesPair n s m o keep d a t = OfBoth n s m o (λ la lb. MergesOne n m keep la lb d a t)
+
 -- both lists taken into an empty destination, one after the other
 pub record Joins (n : Numbers) (s : List ℕ) (m : Numbers) (o : List ℕ) (keep : ℕ) (h : Shape) (d : List ℕ) (a : ℕ) (t : List ℕ) : Type 0 where
   pub own : ℕ
@@ -88,3 +100,11 @@ module _ (n : Numbers) (s : List ℕ) (m : Numbers) (o : List ℕ) (keep : ℕ) 
 
 pub sound-narrower : (n : Numbers) (s : List ℕ) (m : Numbers) (o : List ℕ) (keep : ℕ) (d : List ℕ) → widthOf m < widthOf n → MergesSound n s m o keep d (Refused 8) d
 sound-narrower n s m o keep d h la lb x y = record { narrower = λ _. (refl, refl); equal = λ z. absurd (omega arith); wider = λ z. absurd (omega arith) }
+
+-- ---- and by family
+module _ (n : Numbers) (s : List ℕ) (m : Numbers) (o : List ℕ) (keep : ℕ) (d : List ℕ) where
+  pub pair-differ : n .family ≢ m .family → MergesPair n s m o keep d (Refused 19) d
+  pair-differ h la lb x y = two-families n m _ _ h (refl, refl)
+
+  pub pair-same : (a : Rebuilt) (t : List ℕ) → n .family ≡ m .family → MergesSound n s m o keep d a t → MergesPair n s m o keep d a t
+  pair-same a t e g la lb x y = one-family n m _ _ e (g la lb x y)

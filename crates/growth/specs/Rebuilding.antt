@@ -69,13 +69,13 @@ abbrev pub emptied : Made → ℕ
 emptied (made.Fresh n) = 0
 emptied (made.Refused k) = k
 
-pub made-empties : (q r mx : ℕ) → Widths q r → maxDue q r mx ≡ 0 → (d : List ℕ) (m : Made) (t : List ℕ) → MadeAs d q r mx m t → Empties q r d (emptied m) t
-made-empties q r mx w e d (made.Fresh n) t h = record {
+pub made-empties : (q r mx family : ℕ) → Widths q r → maxDue q r mx ≡ 0 → (d : List ℕ) (m : Made) (t : List ℕ) → MadeAs d q r mx family m t → Empties q r d (emptied m) t
+made-empties q r mx family w e d (made.Fresh n) t h = record {
   is = sym (h .0) ∙ fresh-rest q r mx (length d) w e;
   made = λ _. (h .2, none-destination q r (length d) (sym (fresh-rest q r mx (length d) w e) ∙ h .0));
   kept = λ z. absurd (omega arith);
 }
-made-empties q r mx w e d (made.Refused k) t h = record {
+made-empties q r mx family w e d (made.Refused k) t h = record {
   is = sym (h .0) ∙ fresh-rest q r mx (length d) w e;
   made = λ z. absurd (omega arith);
   kept = λ _. h .2;

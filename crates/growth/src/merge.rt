@@ -6,7 +6,7 @@ ghost use Rattle.theory.specs.Joining.{limit};
 ghost use Rattle.theory.specs.Planning.{widthFrom};
 ghost use Rattle.layout.specs.Records.{lowestDue};
 ghost use Rattle.layout.specs.Whole.{Whole};
-ghost use Rattle.growth.specs.Merging.{mostOf, Wants, Joins, MergesEqual, MergesWider, MergesSound, Merges};
+ghost use Rattle.growth.specs.Merging.{mostOf, Wants, Joins, MergesEqual, MergesWider, MergesPair, Merges};
 use crate::rebuild::Rebuilt;
 use crate::rebuild::empty_out;
 use crate::take::take_in;
@@ -151,7 +151,7 @@ fn merge_wider(
     Rebuilt::Filter(n.with_len(len))
 }
 
-// Number 8 if other's width is smaller; else the case that the widths tell.
+// Number 19 if the families differ, then 8 if other's width is smaller; else the case that the widths tell.
 fn merge_sound(
     buf: &[u8],
     n: Numbers,
@@ -161,10 +161,13 @@ fn merge_sound(
     dest: &mut [u8],
 ) -> Rebuilt
     requires { ⌜ (lowestDue n (now buf) ≡ 0) × (lowestDue m (now other) ≡ 0) ⌝ }
-    ensures { λ r. ⌜ MergesSound n (now (buf .entry)) m (now (other .entry)) keep (now (dest .entry)) r (now (dest .exit)) ⌝ }
+    ensures { λ r. ⌜ MergesPair n (now (buf .entry)) m (now (other .entry)) keep (now (dest .entry)) r (now (dest .exit)) ⌝ }
 {
     let width = n.qbits + n.rbits;
     let other_width = m.qbits + m.rbits;
+    if n.family != m.family {
+        return Rebuilt::Refused(19);
+    }
     if other_width < width {
         return Rebuilt::Refused(8);
     }
@@ -174,7 +177,7 @@ fn merge_sound(
     merge_wider(buf, n, other, m, keep, dest)
 }
 
-// Self and other merged in the destination, with duplicates unless keep_duplicates is 0; or self's number 1 to 6, other's, 8, 7, then 12.
+// Self and other merged in the destination, with duplicates unless keep_duplicates is 0; or self's number 1 to 6, other's, 19, 8, 7, then 12.
 pub fn merge(
     buf: &[u8],
     n: Numbers,

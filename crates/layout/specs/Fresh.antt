@@ -13,13 +13,13 @@ use Rattle.layout.specs.declared.fresh.Made.{Made}
 use Rattle.layout.specs.declared.fresh.Made.the-variants.{Fresh, Refused}
 
 -- the numbers asked for with len 0, and the image of the empty list, if none of 1, 4 and 12 is due; else the first that is, and the buffer as it was
-abbrev pub MadeAs : List ℕ → ℕ → ℕ → ℕ → Made → List ℕ → Type 0
-MadeAs s q r mx (Fresh n) t = (freshDue q r mx (length s) ≡ 0) × (n ≡ emptyRecord q r mx) × (t ≡ image q r [])
-MadeAs s q r mx (Refused k) t = (freshDue q r mx (length s) ≡ k) × (0 < k) × (t ≡ s)
+abbrev pub MadeAs : List ℕ → ℕ → ℕ → ℕ → ℕ → Made → List ℕ → Type 0
+MadeAs s q r mx family (Fresh n) t = (freshDue q r mx (length s) ≡ 0) × (n ≡ emptyRecord q r mx family) × (t ≡ image q r [])
+MadeAs s q r mx family (Refused k) t = (freshDue q r mx (length s) ≡ k) × (0 < k) × (t ≡ s)
 
 -- a fresh filter is sound and holds nothing
-pub made-sound : (s : List ℕ) (q r mx : ℕ) (n : Numbers) (t : List ℕ) → MadeAs s q r mx (Fresh n) t
+pub made-sound : (s : List ℕ) (q r mx family : ℕ) (n : Numbers) (t : List ℕ) → MadeAs s q r mx family (Fresh n) t
     → SoundOf n t × HoldsOf n t []
-made-sound s q r mx n t h =
+made-sound s q r mx family n t h =
     let e = none-fresh q r mx (length s) (h .0) in
     rw (h .1, h .2) (sound-empty q r mx (e .0) (e .1), holds-empty q r)

@@ -1,7 +1,7 @@
 -- What follows of a verdict: the check's answer is one, and it is what a checked call needs. Assumes nothing.
 use Prim.Native.Nat.{ℕ, _+_, _≤_, _<_}
 use mathlib.Core.Path.{_≡_, sym, ap, subst}
-use mathlib.Core.Logic.{inl, inr}
+use mathlib.Core.Logic.{_≢_, inl, inr}
 use mathlib.Core.List.{List}
 use native.Mathlib.Omega.{arith}
 use lib.ListN.{length}
@@ -15,7 +15,7 @@ use Rattle.layout.specs.declared.numbers.Numbers.{Numbers}
 use Rattle.layout.specs.declared.check.Verdict.{Verdict}
 use Rattle.layout.specs.declared.check.Verdict.the-variants.{Sound, Refused}
 use Rattle.layout.specs.Whole.{Whole}
-use Rattle.layout.specs.Records.{shapeOf, lowestDue, SoundOf, HoldsOf, Within, Keeps, CheckedOn, CheckedBoth, QuickOn}
+use Rattle.layout.specs.Records.{shapeOf, lowestDue, SoundOf, HoldsOf, Within, Keeps, CheckedOn, CheckedBoth, OneFamily, QuickOn}
 use Rattle.layout.specs.Verdicts.{Judged, JudgedBoth, Answered}
 
 -- where none of 1 to 5 is due: what that says of each number
@@ -81,6 +81,14 @@ module _ (n : Numbers) (s : List ℕ) (m : Numbers) (o : List ℕ) (refused : �
 
   pub both-sound : JudgedBoth n s m o Sound → ((la lb : List ℕ) → HoldsOf n s la → HoldsOf m o lb → right la lb) → CheckedBoth n s m o refused right
   both-sound p f = checked-sound n s refused _ (p .0) (λ la h. checked-sound m o refused (right la) (p .1) (λ lb g. f la lb h g))
+
+-- filters of two families, and of one
+module _ (n m : Numbers) (refused : ℕ → Type 0) (right : Type 0) where
+  pub two-families : n .family ≢ m .family → refused 19 → OneFamily n m refused right
+  two-families h x = record { differ = λ _. x; same = λ e. absurd (h e) }
+
+  pub one-family : n .family ≡ m .family → right → OneFamily n m refused right
+  one-family e y = record { differ = λ h. absurd (h e); same = λ _. y }
 
 -- a quick call that asks 1 to 5: refuse the number, or work
 module _ (n : Numbers) (s : List ℕ) (refused : ℕ → Type 0) (right : List ℕ → Type 0) (left : Type 0) where

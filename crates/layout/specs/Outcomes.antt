@@ -4,11 +4,12 @@ use mathlib.Core.Path.{_≡_, refl, sym, ap, _∙_}
 use mathlib.Core.Logic.{_⊎_, inl, inr}
 use mathlib.Core.List.{List}
 use native.Mathlib.Omega.{arith}
+use native.Mathlib.Decide.{ℕ-discrete}
 use native.Mathlib.Nat.{eq-zero-or-pos}
 use Rattle.theory.specs.Answer.{Answer, gives, refuses, number, values}
 use Rattle.theory.specs.Image.{image}
 use Rattle.layout.specs.declared.numbers.Numbers.{Numbers}
-use Rattle.layout.specs.Records.{lowestDue, SoundOf, Leaves}
+use Rattle.layout.specs.Records.{lowestDue, SoundOf, OneFamily, Leaves}
 
 -- a number 1 to 5 is due, or the buffer is sound
 abbrev pub Settled : Numbers → List ℕ → Type 0
@@ -39,6 +40,22 @@ leaves-given k v n l d a t p = go (eq-zero-or-pos k)
     go : (k ≡ 0) ⊎ (0 < k) → (k ≡ 0) × (a ≡ v) × (t ≡ image (n .qbits) (n .rbits) l)
     go (inl z) = (z, ap (values a) (p .done z .0), p .done z .1)
     go (inr z) = absurd (omega (arith, ap number (p .refused z .0)))
+
+-- a call on filters of one family: what is one in either case is one, and an answer that is no refusal was of one family
+module _ {O : Type 0} (n m : Numbers) (refused : ℕ → O → Type 0) (right : O → Type 0) (a : O) (p : OneFamily n m (λ k. refused k a) (right a)) where
+  pub family-one : ((a b : O) → refused 19 a → refused 19 b → a ≡ b) → ((a b : O) → right a → right b → a ≡ b) → (b : O) → OneFamily n m (λ k. refused k b) (right b) → a ≡ b
+  family-one one same b q = go (ℕ-discrete (n .family) (m .family))
+    where
+      go : Dec (n .family ≡ m .family) → a ≡ b
+      go (yes e) = same a b (p .same e) (q .same e)
+      go (no h) = one a b (p .differ h) (q .differ h)
+
+  pub family-given : ¬ (refused 19 a) → (n .family ≡ m .family) × right a
+  family-given never = go (ℕ-discrete (n .family) (m .family))
+    where
+      go : Dec (n .family ≡ m .family) → (n .family ≡ m .family) × right a
+      go (yes e) = (e, p .same e)
+      go (no h) = absurd (never (p .differ h))
 
 -- how a call comes to what it leaves
 module _ {A : Type 0} (k : ℕ) (v : A) (n : Numbers) (l d : List ℕ) where

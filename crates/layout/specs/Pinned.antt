@@ -66,20 +66,20 @@ filter-specs-pinned c rate (specified.Refused k) (specified.Specs y) s t = absur
 filter-specs-pinned c rate (specified.Refused k) (specified.Refused j) s t = ap specified.Refused (sym (s .0) ∙ t .0)
 
 pub plan-resizeable-pinned : (initial most : ℕ) (rate : Float) (a b : Planned) → PlannedAs initial most rate a → PlannedAs initial most rate b → a ≡ b
-plan-resizeable-pinned initial most rate (planned.Widths m) (planned.Widths n) s t = ap planned.Widths (s .1 ∙ sym (t .1))
-plan-resizeable-pinned initial most rate (planned.Widths m) (planned.Refused k) s t = absurd (omega arith)
-plan-resizeable-pinned initial most rate (planned.Refused k) (planned.Widths n) s t = absurd (omega arith)
+plan-resizeable-pinned initial most rate (planned.Widths h mx) (planned.Widths g nx) s t = λ i. planned.Widths ((s .1 ∙ sym (t .1)) i) ((s .2 ∙ sym (t .2)) i)
+plan-resizeable-pinned initial most rate (planned.Widths h mx) (planned.Refused k) s t = absurd (omega arith)
+plan-resizeable-pinned initial most rate (planned.Refused k) (planned.Widths g nx) s t = absurd (omega arith)
 plan-resizeable-pinned initial most rate (planned.Refused k) (planned.Refused j) s t = ap planned.Refused (sym (s .0) ∙ t .0)
 
 -- ---- a fresh filter
 pub clear-pinned : (s t u : List ℕ) → t ≡ replicate (length s) 0 → u ≡ replicate (length s) 0 → t ≡ u
 clear-pinned s t u x y = x ∙ sym y
 
-pub fresh-pinned : (s : List ℕ) (q r mx : ℕ) (a b : Made) (t u : List ℕ) → MadeAs s q r mx a t → MadeAs s q r mx b u → (a ≡ b) × (t ≡ u)
-fresh-pinned s q r mx (made.Fresh m) (made.Fresh n) t u x y = (ap made.Fresh (x .1 ∙ sym (y .1)), x .2 ∙ sym (y .2))
-fresh-pinned s q r mx (made.Fresh m) (made.Refused k) t u x y = absurd (omega arith)
-fresh-pinned s q r mx (made.Refused k) (made.Fresh n) t u x y = absurd (omega arith)
-fresh-pinned s q r mx (made.Refused k) (made.Refused j) t u x y = (ap made.Refused (sym (x .0) ∙ y .0), x .2 ∙ sym (y .2))
+pub fresh-pinned : (s : List ℕ) (q r mx family : ℕ) (a b : Made) (t u : List ℕ) → MadeAs s q r mx family a t → MadeAs s q r mx family b u → (a ≡ b) × (t ≡ u)
+fresh-pinned s q r mx family (made.Fresh m) (made.Fresh n) t u x y = (ap made.Fresh (x .1 ∙ sym (y .1)), x .2 ∙ sym (y .2))
+fresh-pinned s q r mx family (made.Fresh m) (made.Refused k) t u x y = absurd (omega arith)
+fresh-pinned s q r mx family (made.Refused k) (made.Fresh n) t u x y = absurd (omega arith)
+fresh-pinned s q r mx family (made.Refused k) (made.Refused j) t u x y = (ap made.Refused (sym (x .0) ∙ y .0), x .2 ∙ sym (y .2))
 
 -- ---- the check
 pub check-pinned : (n : Numbers) (s : List ℕ) (v w : Verdict) → Judged n s v → Judged n s w → v ≡ w

@@ -5,8 +5,7 @@ use lib.Ieee.{Float}
 use Rattle.theory.specs.Shape.{capacity, bytes}
 use Rattle.theory.specs.Planning.{neededQbits, rbitsFor, halfPow, perItem, plannedRbits, plannedMax, capacityDue, specsDue, planDue, freshDue}
 use Rattle.theory.specs.refusals.PlanRefused.{plan-fresh}
-use Rattle.layout.specs.declared.numbers.Numbers.{Numbers}
-use Rattle.layout.specs.Records.{emptyRecord}
+use Rattle.layout.specs.declared.shape.Shape.{Shape}
 use Rattle.layout.specs.declared.planning.Needed.{Needed}
 use Rattle.layout.specs.declared.planning.Needed.the-variants as needed
 use Rattle.layout.specs.declared.planning.FilterSpecs.{FilterSpecs}
@@ -34,13 +33,13 @@ abbrev pub SpecifiedAs : ℕ → Float → Specified → Type 0
 SpecifiedAs c rate (specified.Specs s) = (specsDue c rate ≡ 0) × SpecsOf (neededQbits c) (rbitsFor rate) s
 SpecifiedAs c rate (specified.Refused k) = (specsDue c rate ≡ k) × (0 < k)
 
--- the numbers of an empty filter of the widths planned, if none of 11, 10 and 9 is due; else the first that is
+-- the widths planned, if none of 11, 10 and 9 is due; else the first that is
 abbrev pub PlannedAs : ℕ → ℕ → Float → Planned → Type 0
-PlannedAs initial most rate (planned.Widths n) =
-    (planDue initial most rate ≡ 0) × (n ≡ emptyRecord (neededQbits initial) (plannedRbits initial most rate) (plannedMax initial most))
+PlannedAs initial most rate (planned.Widths h mx) =
+    (planDue initial most rate ≡ 0) × (h ≡ record { qbits = neededQbits initial; rbits = plannedRbits initial most rate }) × (mx ≡ plannedMax initial most)
 PlannedAs initial most rate (planned.Refused k) = (planDue initial most rate ≡ k) × (0 < k)
 
 -- a plan can be made: with a buffer of the formula's length nothing is due for a fresh filter
-pub planned-fresh : (initial most : ℕ) (rate : Float) (n : Numbers) → PlannedAs initial most rate (planned.Widths n)
-    → freshDue (n .qbits) (n .rbits) (n .«max_qbits») (bytes (n .qbits) (n .rbits)) ≡ 0
-planned-fresh initial most rate n h = rw (h .1) (plan-fresh initial most rate (h .0))
+pub planned-fresh : (initial most : ℕ) (rate : Float) (h : Shape) (mx : ℕ) → PlannedAs initial most rate (planned.Widths h mx)
+    → freshDue (h .qbits) (h .rbits) mx (bytes (h .qbits) (h .rbits)) ≡ 0
+planned-fresh initial most rate h mx p = rw (p .1, p .2) (plan-fresh initial most rate (p .0))

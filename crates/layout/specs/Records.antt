@@ -2,6 +2,7 @@
 -- and the forms of the calls on it.
 use Prim.Native.Nat.{ℕ, _+_, _≤_, _<_}
 use mathlib.Core.Path.{_≡_}
+use mathlib.Core.Logic.{_≢_}
 use mathlib.Core.List.{List}
 use lib.ListN.{length}
 use Rattle.theory.specs.Answer.{Answer, gives, refuses}
@@ -14,8 +15,8 @@ use Rattle.layout.specs.declared.shape.Shape.{Shape}
 
 -- ---- the record
 -- the record of an empty filter
-abbrev pub emptyRecord : ℕ → ℕ → ℕ → Numbers
-emptyRecord q r mx = record { len = 0; qbits = q; rbits = r; «max_qbits» = mx }
+abbrev pub emptyRecord : ℕ → ℕ → ℕ → ℕ → Numbers
+emptyRecord q r mx family = record { len = 0; qbits = q; rbits = r; «max_qbits» = mx; family = family }
 
 -- its shape, and the bits of a fingerprint
 abbrev pub shapeOf : Numbers → Shape
@@ -26,7 +27,7 @@ widthOf n = n .qbits + n .rbits
 
 -- the record at other widths, with this len, and with another len alone
 abbrev pub withShape : Numbers → Shape → ℕ → Numbers
-withShape n h len = record { len = len; qbits = h .qbits; rbits = h .rbits; «max_qbits» = n .«max_qbits» }
+withShape n h len = record { len = len; qbits = h .qbits; rbits = h .rbits; «max_qbits» = n .«max_qbits»; family = n .family }
 
 abbrev pub withLen : Numbers → ℕ → Numbers
 withLen n len = withShape n (shapeOf n) len
@@ -67,6 +68,11 @@ QuickOn n s refused right left = Quick (n .qbits) (n .rbits) (n .len) (n .«max_
 -- a checked call on two filters: the first one's numbers 1 to 6, then the second one's
 abbrev pub CheckedBoth : Numbers → List ℕ → Numbers → List ℕ → (ℕ → Type 0) → (List ℕ → List ℕ → Type 0) → Type 0
 CheckedBoth n s m o refused right = CheckedOn n s refused (λ la. CheckedOn m o refused (right la))
+
+-- of a call on filters of one family: number 19 if the families differ, else what is right
+pub record OneFamily (n m : Numbers) (refused : ℕ → Type 0) (right : Type 0) : Type 0 where
+  pub differ : n .family ≢ m .family → refused 19
+  pub same : n .family ≡ m .family → right
 
 -- of a call that only answers: a number, or the values that are right for the list held
 abbrev pub Answers : {A : Type 0} → Numbers → List ℕ → (List ℕ → A) → Answer A → Type 0

@@ -1,4 +1,4 @@
-// A fresh filter: widths and a lent buffer, which is cleared.
+// A fresh filter: widths, a family and a lent buffer, which is cleared.
 ghost use mathlib.Core.Path.{_≡_};
 ghost use lib.ListN.{length, replicate};
 ghost use Rattle.layout.specs.Fresh.{MadeAs};
@@ -24,9 +24,9 @@ pub fn clear(buf: &mut [u8])
     }
 }
 
-// An empty filter of these widths in the buffer; or number 1, 4, then 12, and the buffer as it was.
-pub fn fresh(buf: &mut [u8], qbits: u8, rbits: u8, max_qbits: u8) -> Made
-    ensures { λ r. ⌜ MadeAs (now (buf .entry)) qbits rbits «max_qbits» r (now (buf .exit)) ⌝ }
+// An empty filter of these widths and this family in the buffer; or number 1, 4, then 12, and the buffer as it was.
+pub fn fresh(buf: &mut [u8], qbits: u8, rbits: u8, max_qbits: u8, family: u64) -> Made
+    ensures { λ r. ⌜ MadeAs (now (buf .entry)) qbits rbits «max_qbits» family r (now (buf .exit)) ⌝ }
 {
     let Shaped::Of(shape) = Shape::new(qbits, rbits) else {
         return Made::Refused(1);
@@ -38,5 +38,5 @@ pub fn fresh(buf: &mut [u8], qbits: u8, rbits: u8, max_qbits: u8) -> Made
         return Made::Refused(12);
     }
     clear(buf);
-    Made::Fresh(Numbers::empty(qbits, rbits, max_qbits))
+    Made::Fresh(Numbers::empty(qbits, rbits, max_qbits, family))
 }

@@ -6,25 +6,27 @@ ghost use Rattle.layout.specs.Records.{emptyRecord, shapeOf, withShape, 
 use crate::shape::Shape;
 use crate::shape::Shaped;
 
-// max_qbits is 0 for none.
+// max_qbits is 0 for none; family tells the hash that the fingerprints come from.
 #[repr(C)]
 pub struct Numbers {
     pub len: u64,
     pub qbits: u8,
     pub rbits: u8,
     pub max_qbits: u8,
+    pub family: u64,
 }
 
 impl Numbers {
     // The record of an empty filter.
-    pub fn empty(qbits: u8, rbits: u8, max_qbits: u8) -> Numbers
-        ensures { λ r. ⌜ r ≡ emptyRecord qbits rbits «max_qbits» ⌝ }
+    pub fn empty(qbits: u8, rbits: u8, max_qbits: u8, family: u64) -> Numbers
+        ensures { λ r. ⌜ r ≡ emptyRecord qbits rbits «max_qbits» family ⌝ }
     {
         Numbers {
             len: 0,
             qbits,
             rbits,
             max_qbits,
+            family,
         }
     }
 
@@ -47,6 +49,7 @@ impl Numbers {
             qbits: shape.qbits,
             rbits: shape.rbits,
             max_qbits: self.max_qbits,
+            family: self.family,
         }
     }
 

@@ -4,7 +4,6 @@ ghost use Prim.Native.Nat.{_<_, _≤_};
 ghost use Rattle.theory.specs.Shape.{capacity, Widths};
 ghost use Rattle.theory.specs.Planning.{neededQbits, rbitsFor, halfPow, perItem};
 ghost use Rattle.layout.specs.Plans.{NeededAs, SpecsOf, SpecifiedAs, PlannedAs};
-use crate::numbers::Numbers;
 use crate::shape::Shape;
 
 // The capacity of 2 ^ 59 slots.
@@ -32,9 +31,9 @@ pub enum Specified {
     Refused(u8),
 }
 
-// The record that a plan comes to; or refused.
+// The shape that a plan comes to, and max_qbits; or refused.
 pub enum Planned {
-    Widths(Numbers),
+    Widths(Shape, u8),
     Refused(u8),
 }
 
@@ -152,7 +151,7 @@ fn max_for(qbits: u8, most: u8) -> u8
     if qbits == most { 0 } else { most }
 }
 
-// The numbers of an empty filter that starts with room for one capacity and can grow to another, which the rate is for; or number 11, 10, then 9.
+// The widths of a filter that starts with room for one capacity and can grow to another, which the rate is for; or number 11, 10, then 9.
 pub fn plan_resizeable(initial: u64, most: u64, rate: f64) -> Planned
     ensures { λ r. ⌜ PlannedAs initial most rate r ⌝ }
 {
@@ -167,5 +166,5 @@ pub fn plan_resizeable(initial: u64, most: u64, rate: f64) -> Planned
     if 64 < qbits + rbits {
         return Planned::Refused(9);
     }
-    Planned::Widths(Numbers::empty(qbits, rbits, max_for(qbits, widest)))
+    Planned::Widths(Shape { qbits, rbits }, max_for(qbits, widest))
 }

@@ -6,7 +6,7 @@ use mathlib.Core.Path.{_≡_, refl, sym, ap, _∙_}
 use mathlib.Core.List.{List, [], _∷_, _++_}
 use native.Mathlib.Omega.{arith}
 use native.Mathlib.Decide.{decLe, decLt, ℕ-discrete}
-use lib.ListN.{length, getD, take, replicate, set}
+use lib.ListN.{length, getD, take, drop, replicate, set}
 use Rattle.theory.specs.tools.Choose.{choose}
 use Rattle.theory.specs.tools.Total.{total}
 use Rattle.theory.specs.number.Bytes.{le, toBytes}
@@ -83,7 +83,7 @@ buffer : List Byte
 buffer = byte 1 0x06 ∷ byte 9 0x0c ∷ byte 18 0x03 ∷ byte 19 0x05 ∷ byte 20 0x03 ∷ []
 
 file : List ℕ
-file = 0x51 ∷ 0x46 ∷ 0x03 ∷ replicate 7 0x00 ++ (0x06 ∷ 0x08 ∷ 0x00 ∷ filled 89 buffer)
+file = 0x51 ∷ 0x46 ∷ 0x03 ∷ replicate 7 0x00 ++ (0x06 ∷ 0x08 ∷ 0x00 ∷ replicate 8 0x00 ++ filled 89 buffer)
 
 -- the examples of the rules in their order, and then an input for each number that is due before the buffer is looked at
 pub table : List Example
@@ -105,18 +105,20 @@ table =
     ∷ bytesOf 7 8 170
     ∷ imageOf 6 8 held buffer
     ∷ prints file "sound 3\n0000000000000103\n0000000000000105\n0000000000000203\n"
+    ∷ prints (set (set file 13 0x07) 20 0x80) "sound 3\n0000000000000103\n0000000000000105\n0000000000000203\n"
     ∷ imageOf 6 8 (replicate 3 0x3f07) (byte 0 0x02 ∷ byte 8 0x80 ∷ byte 9 0x02 ∷ byte 17 0x07 ∷ byte 18 0x07 ∷ byte 80 0x07 ∷ [])
     ∷ offsetsOf 9 8 (replicate 400 0x07) (0 ∷ 255 ∷ 255 ∷ 208 ∷ 144 ∷ 80 ∷ 16 ∷ 0 ∷ [])
     ∷ offsetsOf 9 8 (fewer 0x07 (replicate 400 0x07)) (0 ∷ 255 ∷ 255 ∷ 207 ∷ 143 ∷ 79 ∷ 15 ∷ 0 ∷ [])
     ∷ soundWith 6 8 (replicate 61 0x07)
     ∷ prints [] "refused 13\n"
-    ∷ prints (take 12 file) "refused 13\n"
+    ∷ prints (take 20 file) "refused 13\n"
     ∷ prints (set file 1 0x47) "refused 13\n"
     ∷ prints (set file 10 5) "refused 1\n"
     ∷ prints (set (set file 10 10) 11 55) "refused 1\n"
     ∷ prints (set file 10 10) "refused 14\n"
-    ∷ prints (take 13 file) "refused 2\n"
-    ∷ prints (take 101 file) "refused 2\n"
+    ∷ prints (take 21 file) "refused 2\n"
+    ∷ prints (take 109 file) "refused 2\n"
+    ∷ prints (take 13 file ++ drop 21 file) "refused 2\n"
     ∷ prints (file ++ (0 ∷ [])) "refused 2\n"
     ∷ prints (set file 2 65) "refused 3\n"
     ∷ prints (set (set file 2 65) 12 5) "refused 3\n"
@@ -138,11 +140,12 @@ holding = record { ascending = omega arith; under = omega arith; fewer = omega a
 widths : Widths 6 8
 widths = record { low = omega arith; high = omega arith; some = omega arith; sum = omega arith }
 
-file-printed : reportOf file ≡ sound 3 held
-unfolding file held slots capacity maxQbits fileOf toBytes
-file-printed =
-    ap (λ b. reportOf (fileOf 3 6 8 0 b)) (sym held-image)
-    ∙ list-file 6 8 held (omega arith) widths holding (omega arith)
+-- of any family
+file-printed : (family : ℕ) → reportOf (fileOf 3 6 8 0 family (filled 89 buffer)) ≡ sound 3 held
+unfolding held slots capacity maxQbits
+file-printed family =
+    ap (λ b. reportOf (fileOf 3 6 8 0 family b)) (sym held-image)
+    ∙ list-file 6 8 family held (omega arith) widths holding (omega arith)
 
 at-capacity : holds (soundWith 6 8 (replicate 61 0x07))
 unfolding holds slots capacity
@@ -173,11 +176,13 @@ examples =
     and refl
     and refl
     and held-image
-    and file-printed
+    and (unfold fileOf in file-printed 0)
+    and (unfold fileOf in file-printed 0x8000000000000007)
     and (unfold cell behind start carry walk occ last restAt many runAt run packed in refl)
     and rw (many-copies 512 256 0x07 400) (unfold carry walk in refl)
     and rw (many-copies 512 256 0x07 399) (unfold carry walk in refl)
     and at-capacity
+    and refl
     and refl
     and refl
     and refl

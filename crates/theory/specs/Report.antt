@@ -10,7 +10,7 @@ use Rattle.theory.specs.Sound.{Sound}
 use Rattle.theory.specs.Text.{ascii, headline, lines}
 use Rattle.theory.specs.refusals.SoundDecided.{sound-dec}
 
--- ---- the input: two bytes of mark, eight of len with the lowest first, a byte each of qbits, rbits and max_qbits, and the buffer
+-- ---- the input: two bytes of mark, eight of len with the lowest first, a byte each of qbits, rbits and max_qbits, eight of the family with the lowest first, and the buffer
 -- len
 unfoldable pub lenOf : List ℕ → ℕ
 lenOf s = le (take 8 (drop 2 s))
@@ -25,9 +25,13 @@ rbitsOf s = getD s 11 0
 unfoldable pub maxOf : List ℕ → ℕ
 maxOf s = getD s 12 0
 
+-- the family, which the text does not show
+unfoldable pub familyOf : List ℕ → ℕ
+familyOf s = le (take 8 (drop 13 s))
+
 -- how many bytes stand in front of the buffer, and the buffer
 abbrev pub headerBytes : ℕ
-headerBytes = 13
+headerBytes = 21
 
 unfoldable pub bufferOf : List ℕ → List ℕ
 bufferOf s = drop headerBytes s

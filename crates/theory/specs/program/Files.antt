@@ -18,44 +18,44 @@ use Rattle.theory.specs.refusals.ByNumber.{widths-none}
 use Rattle.theory.specs.refusals.ProgramAsks.{mark-none, header-limit, limit-none}
 use Rattle.theory.specs.program.TextByDue.{report-checked}
 
--- the mark, len, qbits, rbits, max_qbits and the buffer
-unfoldable pub fileOf : ℕ → ℕ → ℕ → ℕ → List ℕ → List ℕ
-fileOf len q r mx b = 0x51 ∷ 0x46 ∷ (toBytes 8 len ++ (q ∷ r ∷ mx ∷ b))
+-- the mark, len, qbits, rbits, max_qbits, the family and the buffer
+unfoldable pub fileOf : ℕ → ℕ → ℕ → ℕ → ℕ → List ℕ → List ℕ
+fileOf len q r mx family b = 0x51 ∷ 0x46 ∷ (toBytes 8 len ++ (q ∷ r ∷ mx ∷ (toBytes 8 family ++ b)))
 
-module _ (len q r mx : ℕ) (b : List ℕ) where
-  len-back : len < 2 ^ 64 → lenOf (fileOf len q r mx b) ≡ len
+module _ (len q r mx family : ℕ) (b : List ℕ) where
+  len-back : len < 2 ^ 64 → lenOf (fileOf len q r mx family b) ≡ len
   unfolding lenOf fileOf toBytes
   len-back h = le-toBytes 8 len h
 
-  qbits-back : qbitsOf (fileOf len q r mx b) ≡ q
+  qbits-back : qbitsOf (fileOf len q r mx family b) ≡ q
   unfolding qbitsOf fileOf toBytes
   qbits-back = refl
 
-  rbits-back : rbitsOf (fileOf len q r mx b) ≡ r
+  rbits-back : rbitsOf (fileOf len q r mx family b) ≡ r
   unfolding rbitsOf fileOf toBytes
   rbits-back = refl
 
-  max-back : maxOf (fileOf len q r mx b) ≡ mx
+  max-back : maxOf (fileOf len q r mx family b) ≡ mx
   unfolding maxOf fileOf toBytes
   max-back = refl
 
-  buffer-back : bufferOf (fileOf len q r mx b) ≡ b
+  buffer-back : bufferOf (fileOf len q r mx family b) ≡ b
   unfolding bufferOf fileOf toBytes
   buffer-back = refl
 
-  marked : markDue (fileOf len q r mx b) ≡ 0
+  marked : markDue (fileOf len q r mx family b) ≡ 0
   unfolding fileOf toBytes
-  marked = mark-none (fileOf len q r mx b) (omega arith) refl refl
+  marked = mark-none (fileOf len q r mx family b) (omega arith) refl refl
 
   -- a sound list
-  sound-file : len < 2 ^ 64 → q ≤ maxQbits → Widths q r → due q r len mx (length b) ≡ 0 → (l : List ℕ) → Holds q r len b l → reportOf (fileOf len q r mx b) ≡ sound len l
+  sound-file : len < 2 ^ 64 → q ≤ maxQbits → Widths q r → due q r len mx (length b) ≡ 0 → (l : List ℕ) → Holds q r len b l → reportOf (fileOf len q r mx family b) ≡ sound len l
   sound-file word m w e l h =
-      let none : headerDue (fileOf len q r mx b) ≡ 0 = header-limit (fileOf len q r mx b) marked (rw (qbits-back, rbits-back) (widths-none q r w)) ∙ rw qbits-back (limit-none q m) in
-      let c = rw (qbits-back, rbits-back, len-back word, max-back, buffer-back) at (report-checked (fileOf len q r mx b) none) in
+      let none : headerDue (fileOf len q r mx family b) ≡ 0 = header-limit (fileOf len q r mx family b) marked (rw (qbits-back, rbits-back) (widths-none q r w)) ∙ rw qbits-back (limit-none q m) in
+      let c = rw (qbits-back, rbits-back, len-back word, max-back, buffer-back) at (report-checked (fileOf len q r mx family b) none) in
       c .sound e l h
 
--- every holding of at most capacity
-pub list-file : (q r : ℕ) (l : List ℕ) → q ≤ maxQbits → Widths q r → Holding (slots q) (2 ^ r) l → length l ≤ capacity q → reportOf (fileOf (length l) q r 0 (image q r l)) ≡ sound (length l) l
+-- every holding of at most capacity, whichever family it is of
+pub list-file : (q r family : ℕ) (l : List ℕ) → q ≤ maxQbits → Widths q r → Holding (slots q) (2 ^ r) l → length l ≤ capacity q → reportOf (fileOf (length l) q r 0 family (image q r l)) ≡ sound (length l) l
 unfolding slots maxQbits
-list-file q r l m w h room =
-    sound-file (length l) q r 0 (image q r l) (omega (arith, h .fewer, pow-mono m)) m w (a-filter q r l w h room .none) l (record { holding = h; many = refl; bytes = refl })
+list-file q r family l m w h room =
+    sound-file (length l) q r 0 family (image q r l) (omega (arith, h .fewer, pow-mono m)) m w (a-filter q r l w h room .none) l (record { holding = h; many = refl; bytes = refl })

@@ -27,7 +27,7 @@ returns : tie.Need-returns
 returns c =
     let o = c .before .before .before .before .before .fresh in
     let a = c .before .before .before .before .before .before .before .before .args in
-    record { answer = o .result; right = o .ensures; is = ap (freshOf (a .qbits) (a .rbits) (a .max-qbits)) (sym (c .before .made .given .1)) }
+    record { answer = o .result; right = o .ensures; is = ap (freshOf (a .qbits) (a .rbits) (a .max-qbits) (a .family)) (sym (c .before .made .given .1)) }
 
 same-length-2 : tie.Need-same-length-2
 same-length-2 c = search needs
@@ -37,7 +37,7 @@ returns-2 c =
     let d = c .before in
     let o = d .before .before .before .before .before .fresh in
     let a = d .before .before .before .before .before .before .before .before .args in
-    record { answer = o .result; right = o .ensures; is = rw (c .empty .ensures) (ap (freshOf (a .qbits) (a .rbits) (a .max-qbits)) (sym (d .before .made2 .given .1))) }
+    record { answer = o .result; right = o .ensures; is = rw (c .empty .ensures) (ap (freshOf (a .qbits) (a .rbits) (a .max-qbits) (a .family)) (sym (d .before .made2 .given .1))) }
 
 pub strumblay-fresh-spec : {M : Type 1} → statement M
 strumblay-fresh-spec =

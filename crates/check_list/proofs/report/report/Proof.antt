@@ -64,7 +64,7 @@ enum-known-begun-2 c = search needs
 
 -- the beginning gave a place
 ready : (c : tie.After-begun2) → Ready (c .before .before .before .before .numbers-of .result) (part-of (input (c .before .before .before .before .before .before .before .before))) (c .begun2 .given .0 .0)
-ready c = begun-ready _ _ _ (subst (Begins _ _) (c .begun2 .given .1) (c .before .before .begin .ensures))
+ready c = begun-ready _ _ _ (subst (Begins (c .before .before .before .before .numbers-of .result) _) (c .begun2 .given .1) (c .before .before .begin .ensures))
 
 put-sound-requires : tie.Need-put-sound-requires
 unfolding maxQbits slots
@@ -79,7 +79,7 @@ returns-2 c =
     let b = c .before .before .before in
     let k = b .before .before .before .before in
     let s = input (k .before .before .before .before) in
-    let a = subst (Begins _ _) (b .begun .given .1) (b .before .before .begin .ensures) in
+    let a = subst (Begins (k .numbers-of .result) _) (b .begun .given .1) (b .before .before .begin .ensures) in
     written-as _ _ _ _ (c .put-refused2 .ensures) _ (sym (text-refused s _ _ (k .numbers-of .ensures) (part s) (none (k .before)) _ a))
 
 returns-3 : tie.Need-returns-3

@@ -21,7 +21,7 @@ enum-known-verdict : tie.Need-enum-known-verdict
 enum-known-verdict c = search needs
 
 returns : tie.Need-returns
-returns c = checked-refused _ _ _ _ _ (subst (Judged _ _) (c .before .verdict .given .1) (c .before .before .before .check .ensures)) refl
+returns c = checked-refused (c .before .before .before .before .before .args .n) _ _ _ _ (subst (Judged _ _) (c .before .verdict .given .1) (c .before .before .before .check .ensures)) refl
 
 enum-told : tie.Need-enum-told
 enum-told c = search needs
@@ -42,7 +42,7 @@ returns-2 c =
     let w = c .before .before in
     let v = w .before in
     let a = v .before .before .before .before .args in
-    checked-sound _ _ _ _ (sound v) (λ l h. ap lookupSays (c .lookup-from .ensures) ∙ looked (a .n) (now (a .buf)) l (a .hash) _ (clear-whole (a .n) (now (a .buf)) (sound v .none) .widths) (rw (w .shape .ensures) at (c .before .find-hash .ensures)) h)
+    checked-sound (a .n) _ _ _ (sound v) (λ l h. ap lookupSays (c .lookup-from .ensures) ∙ looked (a .n) (now (a .buf)) l (a .hash) _ (clear-whole (a .n) (now (a .buf)) (sound v .none) .widths) (rw (w .shape .ensures) at (c .before .find-hash .ensures)) h)
 
 pub contains-fingerprint-spec : {M : Type 1} → statement M
 contains-fingerprint-spec =

@@ -17,7 +17,7 @@ number-due-requires : tie.Need-number-due-requires
 number-due-requires c κs = search needs
 
 returns : tie.Need-returns
-returns c = quick-refused _ _ _ _ _ _ (c .before .number-due .ensures) (c .if1 .taken) refl tt
+returns c = quick-refused (c .before .before .before .args .n) _ _ _ _ _ (c .before .number-due .ensures) (c .if1 .taken) refl tt
 
 shape-requires : tie.Need-shape-requires
 shape-requires c κs = search needs
@@ -32,7 +32,7 @@ returns-2 c =
     let w = c .before in
     let v = w .before in
     let a = v .before .before .before .args in
-    quick-worked _ _ _ _ _ (clear v) (λ l h. counted (a .n) (now (a .buf)) l (a .hash) _ (clear-whole (a .n) (now (a .buf)) (clear v) .widths) (rw (w .shape .ensures) at (c .count-hash .ensures)) h) tt
+    quick-worked (a .n) _ _ _ _ (clear v) (λ l h. counted (a .n) (now (a .buf)) l (a .hash) _ (clear-whole (a .n) (now (a .buf)) (clear v) .widths) (rw (w .shape .ensures) at (c .count-hash .ensures)) h) tt
 
 pub count-fingerprint-quick-spec : {M : Type 1} → statement M
 count-fingerprint-quick-spec =

@@ -19,7 +19,9 @@ enum-known-verdict : tie.Need-enum-known-verdict
 enum-known-verdict c = search needs
 
 returns : tie.Need-returns
-returns c = both-refused _ _ _ _ _ _ _ (subst (JudgedBoth _ _ _ _) (c .before .verdict .given .1) (c .before .before .before .check-both .ensures)) (refl, refl)
+returns c =
+    let a = c .before .before .before .before .before .before .before .args in
+    both-refused (a .n) _ (a .m) _ _ _ _ (subst (JudgedBoth _ _ _ _) (c .before .verdict .given .1) (c .before .before .before .check-both .ensures)) (refl, refl)
 
 enum-told : tie.Need-enum-told
 enum-told c = search needs
@@ -33,7 +35,9 @@ same-length : tie.Need-same-length
 same-length c = search needs
 
 returns-2 : tie.Need-returns-2
-returns-2 c = both-sound _ _ _ _ _ _ (sound (c .before .before .before .before)) (c .before .before .merge-sound .ensures)
+returns-2 c =
+    let a = c .before .before .before .before .before .before .before .before .before .before .args in
+    both-sound (a .n) _ (a .m) _ _ _ (sound (c .before .before .before .before)) (c .before .before .merge-sound .ensures)
 
 pub merge-spec : {M : Type 1} → statement M
 merge-spec =

@@ -1,8 +1,8 @@
--- `growth::merge::merge_sound`: by the widths. Assumes nothing.
+-- `growth::merge::merge_sound`: by the families and the widths. Assumes nothing.
 use native.Mathlib.Omega.{arith}
 use denote.Ref.{now}
 use Rattle.layout.specs.Judging.{clear-of}
-use Rattle.growth.specs.Merging.{sound-narrower, sound-equal, sound-wider}
+use Rattle.growth.specs.Merging.{sound-narrower, sound-equal, sound-wider, pair-differ, pair-same}
 use borrow.Author.Needs.{needs}
 use Rattle.growth.proofs.merge.merge_sound.Statement.{statement}
 use Rattle.growth.proofs.merge.merge_sound.Tie as tie
@@ -21,8 +21,14 @@ add-other-width c =
 
 returns : tie.Need-returns
 returns c =
-    let a = c .before .before .before .before .before .before .args in
-    sound-narrower (a .n) (now (a .buf)) (a .m) (now (a .other)) (a .keep) (now (a .dest)) (c .if1 .taken)
+    let a = c .before .before .before .before .before .before .before .before .args in
+    pair-differ (a .n) (now (a .buf)) (a .m) (now (a .other)) (a .keep) (now (a .dest)) (λ e. omega (arith, e))
+
+returns-2 : tie.Need-returns-2
+returns-2 c =
+    let a = c .before .before .before .before .before .before .before .before .before .args in
+    pair-same (a .n) (now (a .buf)) (a .m) (now (a .other)) (a .keep) (now (a .dest)) _ _ (omega arith)
+    (sound-narrower (a .n) (now (a .buf)) (a .m) (now (a .other)) (a .keep) (now (a .dest)) (c .if2 .taken))
 
 merge-sorted-requires : tie.Need-merge-sorted-requires
 merge-sorted-requires c κs = search needs
@@ -30,10 +36,11 @@ merge-sorted-requires c κs = search needs
 same-length : tie.Need-same-length
 same-length c = search needs
 
-returns-2 : tie.Need-returns-2
-returns-2 c =
-    let a = c .before .before .before .before .before .before .before .before .before .before .before .args in
-    sound-equal (a .n) (now (a .buf)) (a .m) (now (a .other)) (a .keep) (now (a .dest)) _ _ (c .before .before .before .before .if2 .taken) (c .before .before .merge-sorted .ensures)
+returns-3 : tie.Need-returns-3
+returns-3 c =
+    let a = c .before .before .before .before .before .before .before .before .before .before .before .before .before .before .args in
+    pair-same (a .n) (now (a .buf)) (a .m) (now (a .other)) (a .keep) (now (a .dest)) _ _ (omega arith)
+    (sound-equal (a .n) (now (a .buf)) (a .m) (now (a .other)) (a .keep) (now (a .dest)) _ _ (c .before .before .before .before .if3 .taken) (c .before .before .merge-sorted .ensures))
 
 merge-wider-requires : tie.Need-merge-wider-requires
 merge-wider-requires c κs = search needs
@@ -41,10 +48,11 @@ merge-wider-requires c κs = search needs
 same-length-2 : tie.Need-same-length-2
 same-length-2 c = search needs
 
-returns-3 : tie.Need-returns-3
-returns-3 c =
-    let a = c .before .before .before .before .before .before .before .before .before .before .before .args in
-    sound-wider (a .n) (now (a .buf)) (a .m) (now (a .other)) (a .keep) (now (a .dest)) _ _ (omega (arith, c .before .before .before .before .if2 .left, c .before .before .before .before .before .if1 .left)) (c .before .before .merge-wider .ensures)
+returns-4 : tie.Need-returns-4
+returns-4 c =
+    let a = c .before .before .before .before .before .before .before .before .before .before .before .before .before .before .args in
+    pair-same (a .n) (now (a .buf)) (a .m) (now (a .other)) (a .keep) (now (a .dest)) _ _ (omega arith)
+    (sound-wider (a .n) (now (a .buf)) (a .m) (now (a .other)) (a .keep) (now (a .dest)) _ _ (omega (arith, c .before .before .before .before .if3 .left, c .before .before .before .before .before .if2 .left)) (c .before .before .merge-wider .ensures))
 
 pub merge-sound-spec : {M : Type 1} → statement M
 merge-sound-spec =
@@ -53,9 +61,10 @@ merge-sound-spec =
     add-width
     add-other-width
     returns
+    returns-2
     merge-sorted-requires
     same-length
-    returns-2
+    returns-3
     merge-wider-requires
     same-length-2
-    returns-3)
+    returns-4)

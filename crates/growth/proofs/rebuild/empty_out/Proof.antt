@@ -16,7 +16,7 @@ Emptied c m =
 made : (c : tie.After-slice-known2) → Emptied c (c .before .before .fresh .result)
 made c =
     let s = c .before .before .before .before .before in
-    made-empties (s .args .shape .qbits) (s .args .shape .rbits) (s .args .max-qbits) (s .pre .0) (s .pre .1) (now (s .args .dest)) (c .before .before .fresh .result) _ (c .before .before .fresh .ensures)
+    made-empties (s .args .shape .qbits) (s .args .shape .rbits) (s .args .max-qbits) 0 (s .pre .0) (s .pre .1) (now (s .args .dest)) (c .before .before .fresh .result) _ (c .before .before .fresh .ensures)
 
 fresh-requires : tie.Need-fresh-requires
 fresh-requires c κs = search needs

@@ -8,7 +8,6 @@ use Rattle.theory.specs.plan.Needed.{needed-high, needed-mono}
 use Rattle.theory.specs.refusals.PlanRefused.{none-capacity, some-capacity, plan-eleven, plan-ten, plan-nine, plan-none, planned-none, planned-some}
 use Rattle.layout.specs.Plans.{NeededAs}
 use Rattle.layout.specs.declared.planning.Needed.the-variants.{Qbits, Refused}
-use Rattle.layout.specs.Records.{emptyRecord}
 use borrow.Author.Needs.{needs}
 use Rattle.layout.proofs.planning.plan_resizeable.Statement.{statement}
 use Rattle.layout.proofs.planning.plan_resizeable.Tie as tie
@@ -72,18 +71,14 @@ returns-3 c =
 max-for-requires : tie.Need-max-for-requires
 max-for-requires c κs = search needs
 
-empty-requires : tie.Need-empty-requires
-empty-requires c κs = search needs
-
 returns-4 : tie.Need-returns-4
 returns-4 c =
-    let d = c .before in
-    let f = found (d .before .before .before .before) in
-    let w = d .before .before .before .width-for .ensures .0 in
-    let m = d .max-for .ensures in
-    let r = rbits (d .before .before) in
+    let f = found (c .before .before .before .before) in
+    let w = c .before .before .before .width-for .ensures .0 in
+    let m = c .max-for .ensures in
+    let r = rbits (c .before .before) in
     let x = by-eq (neededQbits _) (neededQbits _) (λ e. m .0 (w ∙ sym e ∙ sym (f .1)) ∙ sym (planned-none _ _ e)) (λ e. m .1 (λ z. e (sym (f .1) ∙ sym z ∙ w)) ∙ f .1 ∙ sym (planned-some _ _ e)) in
-    (plan-none _ _ _ (omega arith) (none-capacity _ (f .0)) (rw (r, w) at (sum d)), c .empty .ensures ∙ (λ i. emptyRecord (w i) (r i) (x i)))
+    (plan-none _ _ _ (omega arith) (none-capacity _ (f .0)) (rw (r, w) at (sum c)), (λ i. record { qbits = w i; rbits = r i }), x)
 
 pub plan-resizeable-spec : {M : Type 1} → statement M
 plan-resizeable-spec =
@@ -101,5 +96,4 @@ plan-resizeable-spec =
     add-if2
     returns-3
     max-for-requires
-    empty-requires
     returns-4)

@@ -17,7 +17,7 @@ number-due-requires : tie.Need-number-due-requires
 number-due-requires c κs = search needs
 
 returns : tie.Need-returns
-returns c = quick-refused _ _ _ _ _ _ (c .before .number-due .ensures) (c .if1 .taken) (refl, refl) (inside-same _, (λ k z. refl), tt, (λ _ z. absurd (omega (arith, c .before .number-due .ensures, c .if1 .taken))))
+returns c = quick-refused (c .before .before .before .args .n) _ _ _ _ _ (c .before .number-due .ensures) (c .if1 .taken) (refl, refl) (inside-same _, (λ k z. refl), tt, (λ _ z. absurd (omega (arith, c .before .number-due .ensures, c .if1 .taken))))
 
 insert-worked-requires : tie.Need-insert-worked-requires
 insert-worked-requires c κs = search needs
@@ -28,7 +28,7 @@ same-length c = search needs
 returns-2 : tie.Need-returns-2
 returns-2 c =
     let w = c .before .before .insert-worked .ensures in
-    quick-worked _ _ _ _ _ (clear (c .before .before .before .before)) (w .right) (w .inside)
+    quick-worked (c .before .before .before .before .before .before .before .args .n) _ _ _ _ (clear (c .before .before .before .before)) (w .right) (w .inside)
 
 pub insert-fingerprint-counting-quick-spec : {M : Type 1} → statement M
 insert-fingerprint-counting-quick-spec =

@@ -22,7 +22,7 @@ same-length : tie.Need-same-length
 same-length c = search needs
 
 returns : tie.Need-returns
-returns c = checked-refused _ _ _ _ _ (subst (Judged _ _) (c .before .verdict .given .1) (c .before .before .before .check .ensures)) (refl, refl)
+returns c = checked-refused (c .before .before .before .before .before .before .args .n) _ _ _ _ (subst (Judged _ _) (c .before .verdict .given .1) (c .before .before .before .check .ensures)) (refl, refl)
 
 enum-told : tie.Need-enum-told
 enum-told c = search needs
@@ -34,7 +34,7 @@ same-length-2 : tie.Need-same-length-2
 same-length-2 c = search needs
 
 returns-2 : tie.Need-returns-2
-returns-2 c = checked-sound _ _ _ _ (sound (c .before .before .before .before)) (c .before .before .remove-worked .ensures .right)
+returns-2 c = checked-sound (c .before .before .before .before .before .before .before .before .before .args .n) _ _ _ (sound (c .before .before .before .before)) (c .before .before .remove-worked .ensures .right)
 
 pub remove-fingerprint-spec : {M : Type 1} → statement M
 remove-fingerprint-spec =
