@@ -1,10 +1,14 @@
-/* Makes a list of three retired fingerprints, looks at it, lists it, and damages a byte.
+/* Makes a list of three retired fingerprints, looks at it, lists it, merges it with one of its
+ * family and one of another, and damages a byte.
  * `examples/run` compiles it, runs it and compares what it writes with list.stdout. */
 #include "strumblay.h"
 
 #include <stdio.h>
 
 enum { QBITS = 6, RBITS = 8, BYTES = 89 };
+
+/* A number of our own for the hash that the fingerprints come from. */
+static const uint64_t family = 2026;
 
 /* Writes every fingerprint, or the number of the refusal. */
 static void list(const uint8_t *buf, strumblay_numbers n)
@@ -28,7 +32,7 @@ int main(void)
     uint8_t buf[BYTES];
 
     printf("a buffer of %d bytes\n", (int)strumblay_buffer_len(QBITS, RBITS).value);
-    strumblay_changed changed = strumblay_fresh(QBITS, RBITS, 0, buf, BYTES);
+    strumblay_changed changed = strumblay_fresh(QBITS, RBITS, 0, family, buf, BYTES);
     for (size_t i = 0; i < sizeof retired / sizeof *retired && changed.number == 0; i++)
         changed = strumblay_insert(buf, BYTES, changed.numbers, retired[i], 1);
     if (changed.number != 0) {
@@ -42,6 +46,16 @@ int main(void)
         printf("%04x held %d, compared %d\n", (int)hash, (int)looked.held, (int)looked.compared);
     }
     list(buf, n);
+
+    uint8_t other[BYTES], both[BYTES];
+    for (uint64_t strange = 0; strange <= 1; strange++) {
+        strumblay_numbers m =
+            strumblay_fresh(QBITS, RBITS, 0, family + strange, other, BYTES).numbers;
+        m = strumblay_insert(other, BYTES, m, 0x3f07, 1).numbers;
+        changed = strumblay_merge(buf, BYTES, n, other, BYTES, m, 1, both, BYTES);
+        printf("merged: number %d, len %d, family %d\n", (int)changed.number,
+               (int)changed.numbers.len, (int)changed.numbers.family);
+    }
 
     printf("one bit damaged\n");
     buf[9] ^= 1;

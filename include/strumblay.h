@@ -6,9 +6,9 @@
  *
  * Every answer but select's begins with a number: 0, or why the call was refused. A refused call
  * has changed nothing, its other values are 0, its record is the one given (of a fresh filter, the
- * widths asked for and len 0; of a merge, the first's), and the place of a refused step is the one
- * given. One exception: a quick remove on a buffer that is not sound may have altered blocks, and
- * then refuse.
+ * widths and the family asked for and len 0; of a merge, the first's), and the place of a refused
+ * step is the one given. One exception: a quick remove on a buffer that is not sound may have altered
+ * blocks, and then refuse.
  *
  *    1  qbits outside 6 to 59, rbits 0, or their sum above 64
  *    2  the buffer's length is not that of the widths
@@ -22,10 +22,11 @@
  *   10  planned capacity above 547637714688252314
  *   11  planned maximum below the initial capacity
  *   12  the destination has the wrong length
+ *   19  the two filters are of two families
  *
  * The capacity is 19/20 of the slots, rounded up; no call that writes makes a fuller filter.
  *
- * The lowest of 1 to 6 is given first, then 8, 7, 12; planning gives 11, 10, 9. A call checks 1 to 6
+ * The lowest of 1 to 6 is given first, then 19, 8, 7, 12; planning gives 11, 10, 9. A call checks 1 to 6
  * before it works. One that ends in `_quick`, and a step of a listing, asks 1 to 5: on a buffer that
  * is not sound it ends and stays inside, but its answer may be anything, 6 included, and a quick
  * writer may alter the blocks; the last eight bytes stay, and of the record only len is open, which
@@ -41,14 +42,19 @@
 extern "C" {
 #endif
 
-/* The numbers of a filter: how many fingerprints it holds, the widths of quotient and remainder,
- * and the largest qbits it may grow to, 0 for none. A fingerprint is the low qbits + rbits bits of
- * a hash; higher bits are ignored. */
+/* The numbers of a filter: how many fingerprints it holds, the widths of quotient and remainder, the
+ * largest qbits it may grow to, 0 for none, and the family. A fingerprint is the low qbits + rbits
+ * bits of a hash; higher bits are ignored.
+ *
+ * The family is a number of yours that tells which hash the fingerprints come from. A fresh filter
+ * takes it, every record given back has the one that was given, and filters of two families are not
+ * merged. No other call asks for it, and the bytes of the buffer don't depend on it. */
 typedef struct {
     uint64_t len;
     uint8_t qbits;
     uint8_t rbits;
     uint8_t max_qbits;
+    uint64_t family;
 } strumblay_numbers;
 
 /* A value. */
@@ -99,7 +105,7 @@ strumblay_planned strumblay_plan(uint64_t initial, uint64_t max, double rate);
 strumblay_outcome strumblay_buffer_len(uint8_t qbits, uint8_t rbits);
 
 /* Makes the buffer an empty filter; answers 0. Refuses 1, 4, 12. */
-strumblay_changed strumblay_fresh(uint8_t qbits, uint8_t rbits, uint8_t max_qbits,
+strumblay_changed strumblay_fresh(uint8_t qbits, uint8_t rbits, uint8_t max_qbits, uint64_t family,
                                   uint8_t *buf, size_t buf_len);
 
 /* Check, lookup and count. */
@@ -181,7 +187,8 @@ strumblay_changed strumblay_remove_quick(uint8_t *buf, size_t buf_len, strumblay
 strumblay_changed strumblay_grow(const uint8_t *buf, size_t buf_len, strumblay_numbers n,
                                  uint8_t *dest, size_t dest_len);
 
-/* Both holdings together; answers 0. The result keeps the first's qbits + rbits and max_qbits.
+/* Both holdings together; answers 0. The result keeps the first's qbits + rbits and max_qbits, and
+ * the family, which is the other's too.
  *
  * Fingerprints of equal width: with keep_duplicates copies add up, with 0 each is held once, so the
  * first's own repeats go too. qbits is the smallest, from the first's on, that has room: it may grow,
@@ -190,7 +197,8 @@ strumblay_changed strumblay_grow(const uint8_t *buf, size_t buf_len, strumblay_n
  * The other's wider: they are cut to the first's width. With keep_duplicates all are added, with 0
  * only absent ones, once each, and the first's repeats stay. qbits stays.
  *
- * Refuses the other's 1 to 6 after its own, then 8, then 7 where there is no room. */
+ * Refuses the other's 1 to 6 after its own, then 19 if the families differ, then 8, then 7 where
+ * there is no room. */
 strumblay_changed strumblay_merge(const uint8_t *buf, size_t buf_len, strumblay_numbers n,
                                   const uint8_t *other, size_t other_len,
                                   strumblay_numbers other_n, uint64_t keep_duplicates,

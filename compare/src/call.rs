@@ -31,6 +31,17 @@ impl Call {
             _ => None,
         }
     }
+
+    /// A merge with a filter of another family as one within this, which is what the original makes
+    /// of it.
+    pub fn in_family(&self, family: u64) -> Option<Call> {
+        match self {
+            Call::Merge { other, keep } if other.family != family => {
+                Some(Call::Merge { other: other.clone().of_family(family), keep: *keep })
+            }
+            _ => None,
+        }
+    }
 }
 
 /// What a call answers.

@@ -87,10 +87,10 @@ impl Hashes {
         }
     }
 
-    /// A holding of this many.
+    /// A holding of this many, of any family.
     pub fn holding(&self, rng: &mut Rng, max_qbits: u8, len: u64) -> Filter {
         let held = (0..len).map(|_| self.shape.fingerprint(self.hash(rng))).collect();
-        Filter::new(self.shape, max_qbits, held)
+        Filter::new(self.shape, max_qbits, held).of_family(rng.next())
     }
 
     /// A hash that is held, half of the time.

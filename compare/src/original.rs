@@ -6,8 +6,11 @@ use crate::model::{Filter, Numbers, Place, Widths};
 use crate::subject::Subject;
 use qfilter::Error;
 
-/// The crate's filter.
-pub struct Original(qfilter::Filter);
+/// The crate's filter, and beside it the family, of which the crate knows nothing.
+pub struct Original {
+    filter: qfilter::Filter,
+    family: u64,
+}
 
 /// The number that the rules give to the crate's error.
 pub fn number_of(error: Error) -> u64 {
@@ -26,10 +29,10 @@ pub fn from_model(filter: &Filter, image: &[u8]) -> qfilter::Filter {
     qfilter::Filter::from_parts(image, n.len, n.qbits, n.rbits, n.max_qbits)
 }
 
-/// The crate's record as the rules have it.
-pub fn numbers_of(filter: &qfilter::Filter) -> Numbers {
+/// The crate's record as the rules have it, of a family.
+pub fn numbers_of(filter: &qfilter::Filter, family: u64) -> Numbers {
     let (len, qbits, rbits, max_qbits) = filter.parts();
-    Numbers { len, qbits, rbits, max_qbits }
+    Numbers { len, qbits, rbits, max_qbits, family }
 }
 
 /// The crate's widths.
@@ -56,30 +59,30 @@ pub fn listed(filter: &qfilter::Filter) -> (Vec<u64>, Vec<Place>) {
 impl Original {
     /// A filter that stands for none until one is loaded.
     pub fn new() -> Original {
-        Original(qfilter::Filter::from_parts(&[], 0, 6, 1, 0))
+        Original { filter: qfilter::Filter::from_parts(&[], 0, 6, 1, 0), family: 0 }
     }
 
     fn change(&mut self, call: &Call) -> Result<Answer, Error> {
         Ok(match *call {
             Call::Contains { hash } => {
-                Answer::Held { held: self.0.contains_fingerprint(hash), compared: None }
+                Answer::Held { held: self.filter.contains_fingerprint(hash), compared: None }
             }
-            Call::Count { hash } => Answer::Count(self.0.count_fingerprint(hash)),
+            Call::Count { hash } => Answer::Count(self.filter.count_fingerprint(hash)),
             Call::Insert { hash, max_count } => {
-                Answer::Count(self.0.insert_without_growth(max_count, hash)?)
+                Answer::Count(self.filter.insert_without_growth(max_count, hash)?)
             }
             Call::InsertSpare { hash, max_count } => {
-                let before = numbers_of(&self.0).qbits;
-                let count = self.0.insert_fingerprint_counting(max_count, hash)?;
-                Answer::Spare { count, in_spare: numbers_of(&self.0).qbits != before }
+                let before = self.numbers().qbits;
+                let count = self.filter.insert_fingerprint_counting(max_count, hash)?;
+                Answer::Spare { count, in_spare: self.numbers().qbits != before }
             }
-            Call::Remove { hash } => Answer::Removed(self.0.remove_fingerprint(hash)),
+            Call::Remove { hash } => Answer::Removed(self.filter.remove_fingerprint(hash)),
             Call::List => {
-                let (fingerprints, places) = listed(&self.0);
+                let (fingerprints, places) = listed(&self.filter);
                 Answer::Listed { fingerprints, places }
             }
             Call::Grow => {
-                self.0 = self.0.grown()?;
+                self.filter = self.filter.grown()?;
                 Answer::Written
             }
             Call::Merge { ref other, keep } => self.merge(other, keep)?,
@@ -88,9 +91,9 @@ impl Original {
 
     /// A refused merge of a wider filter stops halfway, a listed difference; so a copy is merged.
     fn merge(&mut self, other: &Filter, keep: bool) -> Result<Answer, Error> {
-        let mut copy = self.0.clone();
+        let mut copy = self.filter.clone();
         copy.merge(keep, &from_model(other, &other.image()))?;
-        self.0 = copy;
+        self.filter = copy;
         Ok(Answer::Written)
     }
 }
@@ -101,23 +104,24 @@ impl Subject for Original {
     }
 
     fn load(&mut self, filter: &Filter, image: &[u8]) {
-        self.0 = from_model(filter, image);
+        self.filter = from_model(filter, image);
+        self.family = filter.family;
     }
 
     fn ask(&mut self, call: &Call, _after: Numbers) -> Option<Answer> {
         Some(self.change(call).unwrap_or_else(|error| Answer::Refused(number_of(error))))
     }
 
-    /// It adds for max_count 0, as it does for 1.
+    /// It adds for max_count 0, as it does for 1, and merges whatever families they are of.
     fn departs(&self, call: &Call) -> Option<Call> {
-        call.with_one()
+        call.with_one().or_else(|| call.in_family(self.family))
     }
 
     fn numbers(&self) -> Numbers {
-        numbers_of(&self.0)
+        numbers_of(&self.filter, self.family)
     }
 
     fn bytes(&self) -> &[u8] {
-        self.0.buffer()
+        self.filter.buffer()
     }
 }

@@ -98,7 +98,7 @@ impl Comparison {
     pub fn finish(self, more: &str) {
         let departed = match self.departed {
             0 => String::new(),
-            n => format!(", and {n} known departures with max_count 0"),
+            n => format!(", and {n} known departures"),
         };
         let asked = self.subjects.iter().filter(|(_, agreed)| *agreed > 0);
         let each: Vec<String> =

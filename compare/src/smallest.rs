@@ -32,7 +32,8 @@ pub fn describe(filter: &Filter) -> String {
         .chunk_by(|a, b| a == b)
         .map(|same| format!("{:x}*{}", same[0], same.len()))
         .collect();
-    let head = format!("{}/{}, max_qbits {}", shape.qbits, shape.rbits, filter.max_qbits);
+    let (qbits, rbits, family) = (shape.qbits, shape.rbits, filter.family);
+    let head = format!("{qbits}/{rbits}, max_qbits {}, family {family:x}", filter.max_qbits);
     format!("{head}, {} held: {}", filter.len(), held.join(" "))
 }
 

@@ -11,7 +11,7 @@ pub type Result<T> = core::result::Result<T, Error>;
 /// ```
 /// use strumblay::{Error, Filter, Numbers};
 ///
-/// let numbers = Numbers { len: 0, qbits: 5, rbits: 8, max_qbits: 0 };
+/// let numbers = Numbers { qbits: 5, rbits: 8, ..Numbers::default() };
 /// let refused = Filter::from_parts([], numbers).check().unwrap_err();
 /// assert_eq!(refused, Error::WIDTHS);
 /// assert_eq!(refused.number(), 1);
@@ -49,6 +49,8 @@ impl Error {
     pub const MAXIMUM_BELOW_INITIAL: Error = Error(11);
     /// 12: the destination has the wrong length.
     pub const DESTINATION_LENGTH: Error = Error(12);
+    /// 19: the two filters are of two families.
+    pub const FAMILIES: Error = Error(19);
 
     /// The number, from 1.
     pub const fn number(self) -> u8 {
@@ -70,6 +72,7 @@ impl Error {
             10 => "planned capacity above 547637714688252314",
             11 => "planned maximum below the initial capacity",
             12 => "the destination has the wrong length",
+            19 => "the two filters are of two families",
             _ => "a number that this crate has no words for",
         }
     }

@@ -1,6 +1,6 @@
 //! A filter: a buffer with its record.
 
-use crate::{Error, Numbers, Result, Widths, ffi};
+use crate::{Error, Fresh, Numbers, Result, ffi};
 use alloc::vec;
 use alloc::vec::Vec;
 use core::fmt;
@@ -55,6 +55,11 @@ impl<B> Filter<B> {
         self.numbers
     }
 
+    /// The family that its fingerprints are of.
+    pub const fn family(&self) -> u64 {
+        self.numbers.family
+    }
+
     /// How many fingerprints are held.
     pub const fn len(&self) -> u64 {
         self.numbers.len
@@ -67,10 +72,12 @@ impl<B> Filter<B> {
 }
 
 impl Filter<Vec<u8>> {
-    /// An empty filter in a buffer of its own. Refuses 1, 4.
-    pub fn new(widths: Widths) -> Result<Filter<Vec<u8>>> {
-        let buffer = vec![0; widths.buffer_len()?];
-        Filter::fresh(buffer, widths)
+    /// An empty filter in a buffer of its own, of [`Widths`] and a [family](Widths::family). Refuses
+    /// 1, 4.
+    pub fn new(fresh: impl Into<Fresh>) -> Result<Filter<Vec<u8>>> {
+        let fresh = fresh.into();
+        let buffer = vec![0; fresh.widths.buffer_len()?];
+        Filter::fresh(buffer, fresh)
     }
 }
 
@@ -139,8 +146,8 @@ fn found(looked: ffi::Looked) -> Result<Lookup> {
 
 impl<B: AsMut<[u8]>> Filter<B> {
     /// Makes the buffer an empty filter, whatever it held. Refuses 1, 4, and 12 for its length.
-    pub fn fresh(mut buffer: B, widths: Widths) -> Result<Filter<B>> {
-        let made = ffi::fresh(widths, buffer.as_mut());
+    pub fn fresh(mut buffer: B, fresh: impl Into<Fresh>) -> Result<Filter<B>> {
+        let made = ffi::fresh(fresh.into(), buffer.as_mut());
         Error::unless(made.number, Filter { buffer, numbers: made.numbers })
     }
 

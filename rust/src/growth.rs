@@ -14,13 +14,14 @@ impl<B: AsRef<[u8]>> Filter<B> {
         Error::unless(got.number, Filter { buffer: dest, numbers: got.numbers })
     }
 
-    /// Both holdings, written to `dest`; the result keeps this one's qbits + rbits and max_qbits.
+    /// Both holdings, written to `dest`; the result keeps this one's qbits + rbits and max_qbits, and
+    /// the family, which must be the same.
     ///
     /// Fingerprints of equal width: with duplicates, copies add up; without, each is held once, so
     /// this one's own repeats go too. qbits may grow, to the smallest with room, up to max_qbits.
     /// The other's wider: they are cut to this one's width; with duplicates all are added, without
     /// only absent ones, once each, and this one's repeats stay. qbits stays. Checked: this one's 1
-    /// to 6, the other's, then 8, 7 where there is no room, and 12 for the length of `dest`.
+    /// to 6, the other's, then 19, 8, 7 where there is no room, and 12 for the length of `dest`.
     pub fn merge_into<C: AsRef<[u8]>, D: AsMut<[u8]>>(
         &self,
         other: &Filter<C>,
@@ -59,6 +60,9 @@ impl<B: AsRef<[u8]>> Filter<B> {
     /// away.insert(0x0203, 1)?;
     /// assert!(home.merged(&away, true)?.fingerprints()?.eq([0x0103, 0x0103, 0x0203]));
     /// assert!(home.merged(&away, false)?.fingerprints()?.eq([0x0103, 0x0203]));
+    /// // Of another hash.
+    /// let strange = Filter::new(Widths::new(6, 8).family(1))?;
+    /// assert_eq!(home.merged(&strange, true), Err(Error::FAMILIES));
     /// # Ok::<(), Error>(())
     /// ```
     pub fn merged<C: AsRef<[u8]>>(

@@ -37,6 +37,11 @@
 //! [`Filter<B>`](Filter) works over a `Vec<u8>` of its own, over `&mut [u8]`, and for reading over
 //! `&[u8]`. Beside the buffer it has a record of [`Numbers`]. Equal widths and equal contents mean
 //! equal bytes, in whatever order they were inserted.
+//!
+//! # Families
+//! A filter cannot tell which hash its fingerprints come from, so its record says: a number of
+//! yours, which [`Widths::family`] gives to a fresh filter and every call carries on. Filters of two
+//! families are not merged, [`Error::FAMILIES`]; no other call asks.
 #![no_std]
 
 extern crate alloc;
@@ -58,7 +63,7 @@ mod listing;
 #[cfg(feature = "library")]
 mod planning;
 
-pub use record::{Numbers, Place, Specs, Widths};
+pub use record::{Fresh, Numbers, Place, Specs, Widths};
 
 #[cfg(feature = "library")]
 pub use {

@@ -12,6 +12,8 @@ pub struct Numbers {
     pub rbits: u8,
     /// The largest qbits that it may grow to, or 0 for none.
     pub max_qbits: u8,
+    /// Tells the hash that the fingerprints come from: filters of two families are never merged.
+    pub family: u64,
 }
 
 /// The widths of a filter: how many bits of a fingerprint choose its place, how many are stored
@@ -36,6 +38,40 @@ pub struct Widths {
     pub rbits: u8,
     /// The largest qbits that it may grow to, or 0 for none.
     pub max_qbits: u8,
+}
+
+/// What a fresh filter is made of: its widths, and the family of its fingerprints. Give each hash
+/// that you use a number of your own, the same wherever lists may meet.
+///
+/// ```
+/// use strumblay::{Error, Filter, Fresh, Widths};
+///
+/// let filter = Filter::new(Widths::new(6, 8).family(7))?;
+/// assert_eq!(filter.family(), 7);
+/// // Of widths alone it is family 0.
+/// assert_eq!(Fresh::from(Widths::new(6, 8)), Widths::new(6, 8).family(0));
+/// assert_eq!(Filter::new(Widths::new(6, 8))?.family(), 0);
+/// # Ok::<(), Error>(())
+/// ```
+#[derive(Clone, Copy, PartialEq, Eq, Hash, Debug, Default)]
+pub struct Fresh {
+    /// The widths.
+    pub widths: Widths,
+    /// The family.
+    pub family: u64,
+}
+
+impl Widths {
+    /// A fresh filter of these widths, for the fingerprints of this family.
+    pub const fn family(self, family: u64) -> Fresh {
+        Fresh { widths: self, family }
+    }
+}
+
+impl From<Widths> for Fresh {
+    fn from(widths: Widths) -> Fresh {
+        widths.family(0)
+    }
 }
 
 /// What a filter for a capacity and a rate takes, and what it gives.

@@ -104,7 +104,7 @@ fn zero_on_a_damaged_buffer() {
 fn refusals_in_order() {
     let buffer = of(&[0x0103]).into_parts().0;
     let check = |buffer: &[u8], len, qbits, max_qbits| {
-        Filter::from_parts(buffer, Numbers { len, qbits, rbits: 8, max_qbits }).check()
+        Filter::from_parts(buffer, Numbers { len, qbits, rbits: 8, max_qbits, family: 9 }).check()
     };
     assert_eq!(check(&buffer, 1, 6, 0), Ok(()));
     assert_eq!(check(&buffer[..0], 65, 5, 5), Err(Error::WIDTHS));
@@ -178,4 +178,63 @@ fn growth_and_merge() {
         many.insert_growing(hash << 6, 1).unwrap();
     }
     assert_eq!((many.len(), many.numbers().qbits), (123, 8));
+}
+
+/// A family with bits set at both ends.
+const FAMILY: u64 = 0xfedc_ba98_7654_3211;
+
+#[test]
+fn every_call_carries_the_family_on() {
+    let widths = Widths { max_qbits: 8, ..SMALL };
+    let mut filter = Filter::new(widths.family(FAMILY)).unwrap();
+    let mut spare = vec![0; 154];
+    assert_eq!(filter.insert(1, 1), Ok(0));
+    assert_eq!((filter.insert_quick(2, 1), filter.family()), (Ok(0), FAMILY));
+    assert_eq!((filter.remove(1), filter.family()), (Ok(true), FAMILY));
+    assert_eq!((filter.remove_quick(2), filter.family()), (Ok(true), FAMILY));
+    assert_eq!((filter.insert_spare(3, 1, &mut spare), filter.family()), (Ok(0), FAMILY));
+    assert_eq!((filter.insert_spare_quick(4, 1, &mut spare), filter.family()), (Ok(0), FAMILY));
+    assert_eq!(filter.grown().unwrap().family(), FAMILY);
+    for hash in 0..62 {
+        filter.insert_spare(hash, 1, &mut spare).unwrap();
+    }
+    assert_eq!((filter.numbers().qbits, filter.family()), (7, FAMILY));
+    let mut spare = vec![0; 284];
+    for hash in 0..123 {
+        filter.insert_spare_quick(hash, 1, &mut spare).unwrap();
+    }
+    assert_eq!((filter.numbers().qbits, filter.family()), (8, FAMILY));
+    assert_eq!(filter.merged(&filter, false).unwrap().family(), FAMILY);
+    let wider = Filter::new(Widths::new(8, 8).family(FAMILY)).unwrap();
+    assert_eq!(filter.merged(&wider, true).unwrap(), filter);
+}
+
+#[test]
+fn two_families_are_not_merged() {
+    let mine = Filter::new(SMALL.family(FAMILY)).unwrap();
+    for family in [0, FAMILY ^ 1, FAMILY ^ 1 << 63] {
+        // Of equal, of wider and of narrower fingerprints: 19 is asked before 8, and before 12.
+        for rbits in [8, 9, 7] {
+            let theirs = Filter::new(Widths::new(6, rbits).family(family)).unwrap();
+            assert_eq!(mine.merged(&theirs, true), Err(Error::FAMILIES));
+            let mut dest = [9; 88];
+            assert_eq!(mine.merge_into(&theirs, false, &mut dest[..]).err(), Some(Error::FAMILIES));
+            assert_eq!(dest, [9; 88]);
+        }
+        let (mut buffer, numbers) = Filter::new(SMALL.family(family)).unwrap().into_parts();
+        buffer[0] = 1;
+        let damaged = Filter::from_parts(buffer, numbers);
+        assert_eq!(mine.merged(&damaged, true), Err(Error::NOT_SOUND));
+        assert_eq!(damaged.merged(&mine, true), Err(Error::NOT_SOUND));
+    }
+    assert_eq!(Error::FAMILIES.to_string(), "refused 19: the two filters are of two families");
+}
+
+#[test]
+fn the_family_is_not_in_the_bytes() {
+    let mut filters = [0, FAMILY].map(|family| Filter::new(SMALL.family(family)).unwrap());
+    filters.iter_mut().for_each(|filter| assert_eq!(filter.insert(0x0103, 1), Ok(0)));
+    assert_eq!(filters[0].buffer(), filters[1].buffer());
+    assert_eq!(filters[1].check(), Ok(()));
+    assert_eq!(filters[1].lookup(0x0103), filters[0].lookup(0x0103));
 }

@@ -61,7 +61,7 @@ fn holding(rng: &mut Rng, shape: Shape, max_qbits: u8, copies: u64, others: u64)
             held.push(other);
         }
     }
-    (Filter::new(shape, max_qbits, held), hash)
+    (Filter::new(shape, max_qbits, held).of_family(rng.next()), hash)
 }
 
 /// Both inserts with every max_count, each on the same start; how many calls that is.

@@ -1,7 +1,8 @@
 //! The order of refusals where a second filter or a destination is lent: self's 1 to 6, the
-//! other's, then 8, 7, 12.
+//! other's, then 19, 8, 7, 12.
 
 use super::Effort;
+use super::merges::some_family;
 use super::reads::some_len;
 use crate::generate::Hashes;
 use crate::model::{Filter, Numbers, Shape, check, insert_spare};
@@ -34,7 +35,8 @@ pub fn drive(effort: Effort) {
         for _ in 0..1500 * effort.times {
             let mine = some(&mut rng, Shape { qbits, rbits });
             let widths = rng.pick(&[(6, 8), (7, 7), (7, 9), (6, 2)]);
-            let theirs = some(&mut rng, Shape { qbits: widths.0, rbits: widths.1 });
+            let mut theirs = some(&mut rng, Shape { qbits: widths.0, rbits: widths.1 });
+            theirs.numbers.family = some_family(&mut rng, mine.numbers.family);
             merge(&mut rng, &mine, &theirs);
             grow(&mut rng, &mine);
             spare(&mut rng, &mine);

@@ -28,6 +28,7 @@ pub fn drive(_effort: Effort) {
     saturated(&mut table);
     at_capacity(&mut table);
     max_count_0(&mut table);
+    families(&mut table);
     println!("{NAME}: {} hold", table.0);
 }
 
@@ -79,10 +80,14 @@ fn three(table: &mut Table) {
     bytes[18..21].copy_from_slice(&[3, 5, 3]);
     table.holds("image of 0103 0105 0203", filter.image(), bytes.clone());
     table.holds("the original's bytes", original.buffer(), &bytes);
-    let mut file = vec![0x51, 0x46, 3, 0, 0, 0, 0, 0, 0, 0, 6, 8, 0];
-    file.extend(&bytes);
+    let old = [&[0x51, 0x46, 3, 0, 0, 0, 0, 0, 0, 0, 6, 8, 0], &bytes[..]].concat();
+    let mut file = [&old[..13], &[0; 8], &bytes].concat();
     let lines = "sound 3\n0000000000000103\n0000000000000105\n0000000000000203\n";
     table.holds("program", program(&file), lines.into());
+    file[13..21].copy_from_slice(&[7, 0, 0, 0, 0, 0, 0, 0x80]);
+    table.holds("program, of another family", program(&file), lines.into());
+    table.holds("program without a family", program(&old), "refused 2\n".into());
+    table.holds("program on a short header", program(&file[..20]), "refused 13\n".into());
     table.holds("program on nothing", program(&[]), "refused 13\n".into());
     file[10] = 10;
     table.holds("program at qbits 10", program(&file), "refused 14\n".into());
@@ -142,9 +147,20 @@ fn max_count_0(table: &mut Table) {
     table.holds("none is added", filter.len(), 0);
     let counts = [0, 0].map(|max_count| original.insert_without_growth(max_count, 5).ok());
     table.holds("the original's", counts, [Some(0), Some(1)]);
-    table.holds("the original adds", numbers_of(&original).len, 1);
+    table.holds("the original adds", numbers_of(&original, 0).len, 1);
     filter.add(5);
     table.holds("max_count 0, held", filter.insert(5, 0), Ok(0));
     table.holds("no second is added", filter.len(), 1);
     table.holds("max_count 1, held", filter.insert(5, 1), Ok(1));
+}
+
+/// 19 exactly if the families differ, and before 8.
+fn families(table: &mut Table) {
+    let [filter, narrow] = [8, 7].map(|rbits| Filter::new(shape(6, rbits), 0, vec![5]));
+    let strange = filter.clone().of_family(1);
+    let both = strange.merge(&strange, true).map(|merged| (merged.len(), merged.family));
+    table.holds("one family", both, Ok((2, 1)));
+    table.holds("two families", filter.merge(&strange, true), Err(19));
+    table.holds("two, narrower", strange.merge(&narrow, true), Err(19));
+    table.holds("one, narrower", filter.merge(&narrow, true), Err(8));
 }

@@ -36,7 +36,7 @@ pub fn drive(effort: Effort) {
         }
         for _ in 0..((1200 * effort.times) >> qbits).max(2) {
             let hashes = Hashes::spread(&mut rng, shape);
-            let start = Filter::new(shape, max_qbits, Vec::new());
+            let start = Filter::new(shape, max_qbits, Vec::new()).of_family(rng.next());
             let calls = inserts(&mut rng, &hashes, &start);
             comparison.run(&start, &calls);
         }

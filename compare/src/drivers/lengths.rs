@@ -1,7 +1,7 @@
 //! The proved library's buffer lengths for every pair of widths, and its fresh filters.
 
 use super::Effort;
-use crate::model::{Shape, Widths, fresh};
+use crate::model::{Fresh, Shape, Widths, fresh};
 use crate::proved::guarded::Guarded;
 use crate::proved::{planning, writing};
 use crate::seed::Rng;
@@ -20,7 +20,7 @@ pub fn drive(effort: Effort) {
         for rbits in 0..=255 {
             let expected = Shape::new(qbits, rbits).map(Shape::buffer_len);
             let widths = Widths { qbits, rbits, max_qbits: 0 };
-            same("buffer length", widths, planning::buffer_len(qbits, rbits), expected);
+            same("buffer length", widths.into(), planning::buffer_len(qbits, rbits), expected);
             calls += 1;
         }
     }
@@ -29,7 +29,8 @@ pub fn drive(effort: Effort) {
         for rbits in [0, 1, 2, 5, 8, 50, 53, 55, 57, 58, 59, 64, 250, 255] {
             for _ in 0..60 * effort.times {
                 let max_qbits = if rng.one_in(3) { 0 } else { rng.below(70) as u8 };
-                one(&mut rng, Widths { qbits, rbits, max_qbits });
+                let family = rng.next();
+                one(&mut rng, Widths { qbits, rbits, max_qbits }.family(family));
                 calls += 1;
             }
         }
@@ -38,23 +39,23 @@ pub fn drive(effort: Effort) {
 }
 
 /// A fresh filter in a destination that has the right length or nearly so.
-fn one(rng: &mut Rng, widths: Widths) {
-    let right = Shape::new(widths.qbits, widths.rbits).map_or(89, Shape::buffer_len).min(LARGEST);
+fn one(rng: &mut Rng, asked: Fresh) {
+    let right = Shape::new(asked.widths.qbits, asked.widths.rbits).map_or(89, Shape::buffer_len).min(LARGEST);
     let len = (right + rng.pick(&[0, 0, 0, 0, 1, 2, 9]))
         .saturating_sub(rng.pick(&[0, 0, 0, 0, 1, 8, LARGEST]));
     let mut dest = Guarded::garbage(len);
-    let expected = fresh(widths, len).map(|numbers| (0, numbers));
-    let got = writing::fresh(widths, dest.bytes_mut());
-    same("fresh", widths, got, expected);
+    let expected = fresh(asked, len).map(|numbers| (0, numbers));
+    let got = writing::fresh(asked, dest.bytes_mut());
+    same("fresh", asked, got, expected);
     let bytes =
         if got.is_ok() { vec![0; len as usize] } else { Guarded::garbage(len).bytes().to_vec() };
-    same("fresh bytes", widths, hex(dest.bytes()), hex(&bytes));
-    same("marks", widths, dest.intact(), true);
+    same("fresh bytes", asked, hex(dest.bytes()), hex(&bytes));
+    same("marks", asked, dest.intact(), true);
 }
 
-fn same<T: PartialEq + Debug>(what: &str, widths: Widths, got: T, expected: T) {
+fn same<T: PartialEq + Debug>(what: &str, asked: Fresh, got: T, expected: T) {
     if got != expected {
-        println!("{NAME}: {what} DISAGREES\n  widths {widths:?}: {got:?}, expected {expected:?}");
+        println!("{NAME}: {what} DISAGREES\n  {asked:?}: {got:?}, expected {expected:?}");
         std::process::exit(1);
     }
 }

@@ -1,4 +1,5 @@
-//! Merges of equal, wider and narrower fingerprints, with and without duplicates.
+//! Merges of equal, wider and narrower fingerprints, with and without duplicates, in one family and
+//! now and then of two.
 
 use super::{Effort, reads::some_len};
 use crate::call::Call;
@@ -61,6 +62,11 @@ fn some_max_qbits(rng: &mut Rng, shape: Shape) -> u8 {
     }
 }
 
+/// The same family, or now and then one that differs in a bit.
+pub fn some_family(rng: &mut Rng, family: u64) -> u64 {
+    if rng.one_in(8) { family ^ 1 << rng.below(64) } else { family }
+}
+
 /// The other filter: by the same spread, partly out of what self holds, and small ones often, so
 /// that refusals stand beside results.
 fn other(rng: &mut Rng, hashes: &Hashes, start: &Filter, shape: Shape) -> Filter {
@@ -69,7 +75,7 @@ fn other(rng: &mut Rng, hashes: &Hashes, start: &Filter, shape: Shape) -> Filter
         1 => rng.below(6),
         _ => rng.below(shape.slots() / 3),
     };
-    let mut other = hashes.at(shape).holding(rng, 0, len);
+    let mut other = hashes.at(shape).holding(rng, 0, len).of_family(some_family(rng, start.family));
     for place in 0..other.held.len() {
         if !start.held.is_empty() && rng.one_in(3) {
             let high = rng.next() & !(u64::MAX >> (64 - start.shape.width()));

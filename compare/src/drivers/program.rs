@@ -33,7 +33,7 @@ pub fn drive(effort: Effort) {
 
 /// Too short ones, wrong marks, and filters that may be wrong.
 fn inputs(rng: &mut Rng, rounds: u64) -> Vec<Vec<u8>> {
-    let mut all: Vec<Vec<u8>> = (0..=14).map(|len| rng.bytes(len)).collect();
+    let mut all: Vec<Vec<u8>> = (0..=22).map(|len| rng.bytes(len)).collect();
     for round in 0..rounds {
         let (qbits, rbits) =
             rng.pick(&[(6, 1), (6, 8), (6, 58), (7, 8), (8, 3), (9, 8), (9, 55), (10, 5)]);
@@ -47,7 +47,7 @@ fn inputs(rng: &mut Rng, rounds: u64) -> Vec<Vec<u8>> {
             input[(round / 16 % 2) as usize] ^= 1;
         }
         if round % 16 == 1 {
-            input.truncate(rng.below(14) as usize);
+            input.truncate(rng.below(22) as usize);
         }
         all.push(input);
     }
@@ -55,7 +55,8 @@ fn inputs(rng: &mut Rng, rounds: u64) -> Vec<Vec<u8>> {
 }
 
 fn file(n: Numbers, bytes: &[u8]) -> Vec<u8> {
-    [&[0x51, 0x46], &n.len.to_le_bytes()[..], &[n.qbits, n.rbits, n.max_qbits], bytes].concat()
+    let (len, family) = (n.len.to_le_bytes(), n.family.to_le_bytes());
+    [&[0x51, 0x46], &len[..], &[n.qbits, n.rbits, n.max_qbits], &family, bytes].concat()
 }
 
 fn output(path: &std::ffi::OsStr, input: &[u8]) -> String {

@@ -25,7 +25,7 @@ pub fn check(numbers: Numbers, bytes: &[u8]) -> Result<Filter, u64> {
     let shape = due_before_image(numbers, bytes.len() as u64)?;
     // If there is a holding, reading finds it; whether there is one, its image tells.
     let held = Buffer { shape, bytes }.read(numbers.len).ok_or(6u64)?;
-    let filter = Filter::new(shape, numbers.max_qbits, held);
+    let filter = Filter::new(shape, numbers.max_qbits, held).of_family(numbers.family);
     if filter.image() == bytes { Ok(filter) } else { Err(6) }
 }
 

@@ -8,15 +8,21 @@ use super::{Numbers, Place, Shape};
 pub struct Filter {
     pub shape: Shape,
     pub max_qbits: u8,
+    pub family: u64,
     pub held: Vec<u64>,
 }
 
 impl Filter {
-    /// The filter of this holding, given in any order and within capacity.
+    /// The filter of this holding, given in any order and within capacity; of family 0.
     pub fn new(shape: Shape, max_qbits: u8, mut held: Vec<u64>) -> Filter {
         assert!(shape.allows(max_qbits) && held.len() as u64 <= shape.capacity());
         held.sort_unstable();
-        Filter { shape, max_qbits, held }
+        Filter { shape, max_qbits, family: 0, held }
+    }
+
+    /// The same in another family.
+    pub fn of_family(self, family: u64) -> Filter {
+        Filter { family, ..self }
     }
 
     /// How many are held.
@@ -26,8 +32,8 @@ impl Filter {
 
     /// The record.
     pub fn numbers(&self) -> Numbers {
-        let Shape { qbits, rbits } = self.shape;
-        Numbers { len: self.len(), qbits, rbits, max_qbits: self.max_qbits }
+        let (Shape { qbits, rbits }, family) = (self.shape, self.family);
+        Numbers { len: self.len(), qbits, rbits, max_qbits: self.max_qbits, family }
     }
 
     /// The bytes.

@@ -1,18 +1,18 @@
 //! A fresh filter, and docs/RULES.md, "Growth", with insert with a spare, and "Merge". A destination
 //! is told by its length alone, since its bytes never matter.
 
-use super::{Filter, Numbers, Shape, Widths};
+use super::{Filter, Fresh, Numbers, Shape, Widths};
 use std::cmp::Ordering;
 
 /// Numbers of a fresh filter: 1, 4, 12, or len 0.
-pub fn fresh(widths: Widths, dest_len: u64) -> Result<Numbers, u64> {
-    let Widths { qbits, rbits, max_qbits } = widths;
+pub fn fresh(fresh: Fresh, dest_len: u64) -> Result<Numbers, u64> {
+    let Widths { qbits, rbits, max_qbits } = fresh.widths;
     let shape = Shape::new(qbits, rbits)?;
     if !shape.allows(max_qbits) {
         return Err(4);
     }
     let empty = Filter::new(shape, max_qbits, Vec::new()).lent(dest_len)?;
-    Ok(empty.numbers())
+    Ok(empty.of_family(fresh.family).numbers())
 }
 
 /// Insert that grows into the spare on 7; answers the count and whether the spare counts now.
@@ -45,8 +45,11 @@ impl Filter {
         Ok(self.at(self.shape.qbits + 1, self.held.clone()))
     }
 
-    /// This filter joined with another: 8, 7.
+    /// This filter joined with another: 19, 8, 7.
     pub fn merge(&self, other: &Filter, keep: bool) -> Result<Filter, u64> {
+        if self.family != other.family {
+            return Err(19);
+        }
         match other.shape.width().cmp(&self.shape.width()) {
             Ordering::Less => Err(8),
             Ordering::Equal => self.merge_equal(other, keep),
@@ -83,9 +86,9 @@ impl Filter {
         Ok(self.at(self.shape.qbits, held))
     }
 
-    /// A holding at another qbits, with self's width and max_qbits.
+    /// A holding at another qbits, with self's width, max_qbits and family.
     fn at(&self, qbits: u8, held: Vec<u64>) -> Filter {
         let rbits = self.shape.width() - qbits;
-        Filter::new(Shape { qbits, rbits }, self.max_qbits, held)
+        Filter::new(Shape { qbits, rbits }, self.max_qbits, held).of_family(self.family)
     }
 }

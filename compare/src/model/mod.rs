@@ -18,4 +18,4 @@ pub use image::carries;
 pub use program::program;
 pub use select::select;
 pub use shape::Shape;
-pub use strumblay::{Numbers, Place, Specs, Widths};
+pub use strumblay::{Fresh, Numbers, Place, Specs, Widths};

@@ -6,6 +6,9 @@ use std::fmt::Write;
 /// The largest qbits that the program takes.
 const MAX_QBITS: u8 = 9;
 
+/// The bytes in front of the buffer.
+const HEADER: usize = 21;
+
 /// The whole output for the whole input.
 pub fn program(input: &[u8]) -> String {
     let held = match read(input) {
@@ -21,14 +24,15 @@ pub fn program(input: &[u8]) -> String {
 
 /// What the input holds: 13, 1, 14, 2 to 6.
 fn read(input: &[u8]) -> Result<Vec<u64>, u64> {
-    if input.len() < 13 || input[..2] != [0x51, 0x46] {
+    if input.len() < HEADER || input[..2] != [0x51, 0x46] {
         return Err(13);
     }
-    let len = u64::from_le_bytes(input[2..10].try_into().expect("eight bytes"));
-    let numbers = Numbers { len, qbits: input[10], rbits: input[11], max_qbits: input[12] };
+    let word = |at: usize| u64::from_le_bytes(input[at..at + 8].try_into().expect("eight bytes"));
+    let (len, family) = (word(2), word(13));
+    let numbers = Numbers { len, qbits: input[10], rbits: input[11], max_qbits: input[12], family };
     let shape = Shape::new(numbers.qbits, numbers.rbits)?;
     if shape.qbits > MAX_QBITS {
         return Err(14);
     }
-    check(numbers, &input[13..]).map(|filter| filter.held)
+    check(numbers, &input[HEADER..]).map(|filter| filter.held)
 }

@@ -1,13 +1,14 @@
 //! Fresh filters, insert, remove, growth, merge, and insert with a spare.
 
 use super::{change_of, unless_refused};
-use crate::model::{Numbers, Widths};
+use crate::model::{Fresh, Numbers, Widths};
 use strumblay::ffi;
 
-/// The answer and the record; on a refusal the record must be the widths given, with len 0.
-pub fn fresh(widths: Widths, buf: &mut [u8]) -> Result<(u64, Numbers), u64> {
-    let Widths { qbits, rbits, max_qbits } = widths;
-    change_of(ffi::fresh(widths, buf), Numbers { len: 0, qbits, rbits, max_qbits })
+/// The answer and the record; on a refusal the record must be the widths and the family given, with
+/// len 0.
+pub fn fresh(fresh: Fresh, buf: &mut [u8]) -> Result<(u64, Numbers), u64> {
+    let Fresh { widths: Widths { qbits, rbits, max_qbits }, family } = fresh;
+    change_of(ffi::fresh(fresh, buf), Numbers { len: 0, qbits, rbits, max_qbits, family })
 }
 
 /// How many were held before, and the record afterwards.

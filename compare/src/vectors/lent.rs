@@ -38,12 +38,12 @@ impl Lent {
         qfilter::Filter::from_parts(self.bytes(), n.len, n.qbits, n.rbits, n.max_qbits)
     }
 
-    /// Becomes the original's filter, or gives 12.
-    pub fn take(&mut self, filter: &qfilter::Filter) -> Result<(), u64> {
+    /// Becomes the original's filter, of a family, or gives 12.
+    pub fn take(&mut self, filter: &qfilter::Filter, family: u64) -> Result<(), u64> {
         if filter.buffer().len() as u64 != self.size {
             return Err(12);
         }
-        self.numbers = numbers_of(filter);
+        self.numbers = numbers_of(filter, family);
         self.room[..self.size as usize].copy_from_slice(filter.buffer());
         Ok(())
     }

@@ -1,7 +1,7 @@
 //! Growth, insert with a spare, and merge.
 
 use super::replay::{Line, Replay, widths};
-use super::script::{MAX, SPREADING, each, fresh};
+use super::script::{FAMILY, MAX, SPREADING, each, fresh, fresh_of};
 use crate::model::Shape;
 
 /// Growth from 6 to 9 bits of quotient, of one long run, and where it may not be.
@@ -53,6 +53,7 @@ pub fn merges(replay: &mut Replay) {
     equal_merges(replay, small);
     wider_merges(replay, small);
     refused_merges(replay, small);
+    families(replay, small);
 }
 
 /// Equal widths: multiplicities add, or each is held once; capacity may ask for a larger one.
@@ -106,4 +107,24 @@ fn refused_merges(replay: &mut Replay, small: Shape) {
     );
     each(replay, [Line('r', 64, widths(6, 8, 0), 89), Line('j', 0, 1, 0), Line('o', 0, 0, 0)]);
     each(replay, [Line('j', 0, 1, 0), Line('b', 80, 0, 0), Line('j', 0, 1, 0), Line('k', 0, 0, 0)]);
+}
+
+/// Two families: 19 before 8, 7 and 12, and after the other's 6. Within one, whichever it is, none.
+fn families(replay: &mut Replay, small: Shape) {
+    for rbits in [8, 9, 7] {
+        other(replay, Shape { qbits: 6, rbits }, 0x105, 0x33, 30);
+        for family in [FAMILY ^ 1, FAMILY ^ 1 << 63, 0] {
+            fresh_of(replay, small, 0, family);
+            replay.call(Line('a', 0x105, 0x66, 61));
+            each(replay, [Line('j', 89, 1, 0), Line('j', 0, 0, 0)]);
+        }
+    }
+    each(replay, [Line('o', 0, 0, 0), Line('b', 80, 1, 0), Line('o', 0, 0, 0)]);
+    each(replay, [Line('j', 89, 1, 0), Line('o', 0, 0, 0), Line('j', 81, 1, 0)]);
+    for family in [0, MAX] {
+        fresh_of(replay, small, 7, family);
+        each(replay, [Line('a', 0x0201, SPREADING, 40), Line('o', 0, 0, 0)]);
+        fresh_of(replay, small, 7, family);
+        each(replay, [Line('a', 0x0301, SPREADING, 40), Line('j', 154, 1, 0), Line('m', 0, 0, 0)]);
+    }
 }

@@ -14,7 +14,7 @@ pub fn refusals(replay: &mut Replay) {
     damaged_bytes(replay, right);
     // A fresh filter asks 1, 4, 12.
     let asked = [(89, 5, 8, 99), (88, 6, 8, 5), (88, 6, 8, 0), (90, 6, 8, 0), (0, 6, 8, 13)];
-    each(replay, asked.map(|(size, q, r, max)| Line('f', size, widths(q, r, max), 0)));
+    each(replay, asked.map(|(size, q, r, max)| Line('f', size, widths(q, r, max), MAX)));
     replay.call(Line('r', 20, right, 89));
     replay.call(Line('k', 0, 0, 0));
 }

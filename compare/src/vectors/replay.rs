@@ -1,6 +1,6 @@
 //! What `crates/vectors` keeps between its calls, with the original in the place of the proved
-//! code, and the model for an insert with max_count 0: each call's line of the list, and the line
-//! that answers it.
+//! code, and the model for an insert with max_count 0 and a merge of two families: each call's line
+//! of the list, and the line that answers it. The family stands beside the original's record.
 
 use super::lent::Lent;
 use super::listing::Listing;
@@ -31,14 +31,14 @@ pub fn widths(qbits: u8, rbits: u8, max_qbits: u8) -> u64 {
 }
 
 /// A record of these widths.
-fn numbers(len: u64, widths: u64) -> Numbers {
+fn numbers(len: u64, widths: u64, family: u64) -> Numbers {
     let [.., qbits, rbits, max_qbits] = widths.to_be_bytes();
-    Numbers { len, qbits, rbits, max_qbits }
+    Numbers { len, qbits, rbits, max_qbits, family }
 }
 
 /// A record in words.
 fn shown(n: Numbers) -> String {
-    format!("{} {} {} {}", n.len, n.qbits, n.rbits, n.max_qbits)
+    format!("{} {} {} {} {:016x}", n.len, n.qbits, n.rbits, n.max_qbits, n.family)
 }
 
 impl Replay {
@@ -59,6 +59,11 @@ impl Replay {
         self.own.check().expect("a sound filter")
     }
 
+    /// The family of the filter that the calls are on.
+    fn family(&self) -> u64 {
+        self.own.numbers.family
+    }
+
     /// Makes a call, and writes its line and the answer.
     pub fn call(&mut self, line: Line) {
         let Line(kind, x, y, z) = line;
@@ -66,7 +71,8 @@ impl Replay {
         writeln!(self.script, "{kind} {x:x} {y:x} {z:x}").expect("memory");
         let after = match kind {
             'f' | 'i' | 'I' | 'm' | 'M' | 'a' | 'x' | 'b' => {
-                format!(" {} {:08x}", self.own.numbers.len, self.own.sum())
+                let Numbers { len, family, .. } = self.own.numbers;
+                format!(" {len} {family:016x} {:08x}", self.own.sum())
             }
             'g' | 'j' => format!(" {:08x}", self.dest.sum()),
             'p' | 'P' => {
@@ -92,7 +98,7 @@ impl Replay {
             'l' => self.begin(),
             's' => self.step(),
             'S' => Ok(format!("{} {}", self.step()?, self.step()?)),
-            'f' => self.fresh(x, y),
+            'f' => self.fresh(x, y, z),
             'i' | 'I' => self.insert(kind, x, y),
             'm' | 'M' => self.remove(kind, x),
             'a' | 'x' => self.many(kind, x, y, z),
@@ -138,7 +144,7 @@ impl Replay {
         self.sound(kind)?;
         let mut filter = self.own.original();
         let count = filter.insert_without_growth(max_count, hash).map_err(number_of)?;
-        self.own.take(&filter)?;
+        self.own.take(&filter, self.family())?;
         Ok(format!("counted {count}"))
     }
 
@@ -146,7 +152,7 @@ impl Replay {
         self.sound(kind)?;
         let mut filter = self.own.original();
         let gone = filter.remove_fingerprint(hash);
-        self.own.take(&filter)?;
+        self.own.take(&filter, self.family())?;
         Ok(if gone { "gone" } else { "absent" }.into())
     }
 
@@ -172,10 +178,11 @@ impl Replay {
         Ok(self.listing.step())
     }
 
-    fn fresh(&mut self, size: u64, widths: u64) -> Result<String, u64> {
+    fn fresh(&mut self, size: u64, widths: u64, family: u64) -> Result<String, u64> {
         self.own.size = size;
-        let Numbers { qbits, rbits, max_qbits, .. } = numbers(0, widths);
-        self.own.numbers = model::fresh(Widths { qbits, rbits, max_qbits }, size)?;
+        let Numbers { qbits, rbits, max_qbits, .. } = numbers(0, widths, family);
+        let widths = Widths { qbits, rbits, max_qbits };
+        self.own.numbers = model::fresh(widths.family(family), size)?;
         self.own.room[..size as usize].fill(0);
         Ok("fresh".into())
     }
@@ -208,12 +215,13 @@ impl Replay {
         self.sound(kind)?;
         let mut filter = self.own.original();
         let count = filter.insert_fingerprint_counting(max_count, hash).map_err(number_of)?;
-        let n = numbers_of(&filter);
+        let family = self.family();
+        let n = numbers_of(&filter, family);
         let grown = n.qbits != self.own.numbers.qbits;
         if grown {
-            self.dest.take(&filter)?
+            self.dest.take(&filter, family)?
         } else {
-            self.own.take(&filter)?
+            self.own.take(&filter, family)?
         }
         let place = if grown { "spare" } else { "old" };
         Ok(format!("{place} {count} {}", shown(n)))
@@ -221,22 +229,26 @@ impl Replay {
 
     fn merge(&mut self, size: u64, keep: u64) -> Result<String, u64> {
         self.dest.size = size;
-        self.own.check()?;
-        self.other.check()?;
+        let mine = self.own.check()?;
+        let theirs = self.other.check()?;
+        // The original asks nothing of the families.
+        if mine.family != theirs.family {
+            return mine.merge(&theirs, keep != 0).map(|_| "filter".into());
+        }
         let mut merged = self.own.original();
         merged.merge(keep != 0, &self.other.original()).map_err(number_of)?;
         self.rebuilt(&merged)
     }
 
     fn rebuilt(&mut self, filter: &qfilter::Filter) -> Result<String, u64> {
-        self.dest.take(filter)?;
+        self.dest.take(filter, self.family())?;
         Ok(format!("filter {}", shown(self.dest.numbers)))
     }
 
     /// What calls nothing: a record given, and buffers that change places.
     fn arrange(&mut self, kind: char, x: u64, y: u64, z: u64) -> String {
         match kind {
-            'r' => (self.own.numbers, self.own.size) = (numbers(x, y), z),
+            'r' => (self.own.numbers, self.own.size) = (numbers(x, y, self.family()), z),
             'o' => std::mem::swap(&mut self.own, &mut self.other),
             'd' => std::mem::swap(&mut self.own, &mut self.dest),
             _ => panic!("no call {kind}"),

@@ -38,9 +38,18 @@ pub fn each(replay: &mut Replay, lines: impl IntoIterator<Item = Line>) {
     lines.into_iter().for_each(|line| replay.call(line));
 }
 
+/// The family that most filters are of.
+pub const FAMILY: u64 = 0xfedc_ba98_7654_3211;
+
 /// An empty filter.
 pub fn fresh(replay: &mut Replay, shape: Shape, max_qbits: u8) {
-    replay.call(Line('f', shape.buffer_len(), widths(shape.qbits, shape.rbits, max_qbits), 0));
+    fresh_of(replay, shape, max_qbits, FAMILY);
+}
+
+/// An empty filter of another family.
+pub fn fresh_of(replay: &mut Replay, shape: Shape, max_qbits: u8, family: u64) {
+    let widths = widths(shape.qbits, shape.rbits, max_qbits);
+    replay.call(Line('f', shape.buffer_len(), widths, family));
 }
 
 /// Begun, and two steps at a time until it is done.

@@ -9,9 +9,9 @@ use layout::numbers::Numbers;
 use writing::writers::Inserted;
 use writing::writers::Removed;
 
-// A fresh filter of these widths.
-fn fresh(buf: &mut [u8], n: Numbers, widths: Numbers) -> Numbers {
-    let made = layout::fresh::fresh(buf, widths.qbits, widths.rbits, widths.max_qbits);
+// A fresh filter of these widths and this family.
+fn fresh(buf: &mut [u8], n: Numbers, asked: Numbers) -> Numbers {
+    let made = layout::fresh::fresh(buf, asked.qbits, asked.rbits, asked.max_qbits, asked.family);
     match made {
         Made::Fresh(after) => {
             say::word(b"fresh");
@@ -102,7 +102,7 @@ fn many(call: Call, buf: &mut [u8], n: Numbers) -> Numbers {
 fn ask(call: Call, buf: &mut [u8], n: Numbers) -> Numbers {
     let kind = call.kind;
     match kind {
-        b'f' => fresh(buf, n, numbers_of(0, call.y)),
+        b'f' => fresh(buf, n, numbers_of(0, call.y, call.z)),
         b'i' => {
             let done = writing::writers::insert_fingerprint_counting(buf, n, call.x, call.y);
             say_inserted(n, done)
@@ -129,14 +129,15 @@ fn size_for(call: Call, size: u64) -> u64 {
     if call.kind == b'f' { call.x } else { size }
 }
 
-// `f` fresh, `i` insert, `m` remove, `a` and `x` many of either, `b` nothing, after a byte was made another; `I` and `M` are quick. Then len and the
-// sum of the bytes.
+// `f` fresh, `i` insert, `m` remove, `a` and `x` many of either, `b` nothing, after a byte was made another; `I` and `M` are quick. Then len, the
+// family and the sum of the bytes.
 pub fn answer(call: Call, lent: Lent, room: &mut [u8]) -> Lent {
     let n = lent.numbers;
     let size = size_for(call, lent.size);
     let end = part(size, room);
     let after = ask(call, &mut room[..end], n);
     say::number(after.len);
+    say::family(after);
     say::sum(size, room);
     Lent {
         numbers: after,

@@ -1,5 +1,5 @@
 // Replays a list of calls from standard input and writes a line for each answer, so that the gate tests the compiled code. The file `stdout` has what
-// the original answers, and to an insert with max_count 0 what the model answers: compare/README.md says how it is made, and lists the calls. A test driver promises
+// the original answers, and to an insert with max_count 0 and a merge of two families what the model answers: compare/README.md says how it is made, and lists the calls. A test driver promises
 // nothing of its own; it is proved safe, and that it ends.
 use script::Call;
 use state::State;
@@ -48,7 +48,7 @@ fn run(
         b'g' => state.with_dest(rebuilding::grow(call, state, own, dest)),
         b'p' | b'P' => rebuilding::spare(call, state, own, dest),
         b'j' => state.with_dest(rebuilding::merge(call, state, own, other, dest)),
-        b'r' => state.with_own(state::record(call)),
+        b'r' => state.with_own(state::record(call, state.own)),
         b'o' => {
             state::swap(own, other);
             state.other_first()

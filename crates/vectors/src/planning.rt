@@ -70,9 +70,9 @@ fn specs(capacity: u64, pattern: u64) {
 fn plan(initial: u64, most: u64, pattern: u64) {
     let planned = layout::planning::plan_resizeable(initial, most, rate_of(pattern));
     match planned {
-        Planned::Widths(n) => {
+        Planned::Widths(shape, max_qbits) => {
             say::word(b"widths");
-            say::widths(n);
+            say::widths(shape, max_qbits);
         }
         Planned::Refused(k) => say::refused(k),
     }

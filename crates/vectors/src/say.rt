@@ -3,6 +3,7 @@ ghost use Prim.Native.Nat.{_<_};
 use crate::state::part;
 use filter::listing::Place;
 use layout::numbers::Numbers;
+use layout::shape::Shape;
 
 // The word that a line begins with.
 pub fn word(text: &[u8]) {
@@ -37,17 +38,23 @@ pub fn refused(k: u8) {
     small(k);
 }
 
-// The widths of a record.
-pub fn widths(n: Numbers) {
-    small(n.qbits);
-    small(n.rbits);
-    small(n.max_qbits);
+// Widths.
+pub fn widths(shape: Shape, max_qbits: u8) {
+    small(shape.qbits);
+    small(shape.rbits);
+    small(max_qbits);
 }
 
-// A record: len and widths.
+// The family of a record.
+pub fn family(n: Numbers) {
+    hex(n.family, 16);
+}
+
+// A record: len, widths and family.
 pub fn record(n: Numbers) {
     number(n.len);
-    widths(n);
+    widths(n.shape(), n.max_qbits);
+    family(n);
 }
 
 // The place of a listing.

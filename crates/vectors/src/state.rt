@@ -26,8 +26,8 @@ pub fn low(x: u64) -> u8 {
 }
 
 // A record; the widths come as a number: qbits, rbits, max_qbits, a byte each.
-pub fn numbers_of(len: u64, widths: u64) -> Numbers {
-    Numbers::empty(low(widths >> 16), low(widths >> 8), low(widths)).with_len(len)
+pub fn numbers_of(len: u64, widths: u64, family: u64) -> Numbers {
+    Numbers::empty(low(widths >> 16), low(widths >> 8), low(widths), family).with_len(len)
 }
 
 // As many bytes as are asked for and there.
@@ -37,11 +37,12 @@ pub fn part(size: u64, room: &[u8]) -> usize
     io::count((size % 65536) as isize, room)
 }
 
-// A record by itself: `r` len, widths, size.
-pub fn record(call: Call) -> Lent {
+// A record by itself, of the family before it: `r` len, widths, size.
+pub fn record(call: Call, before: Lent) -> Lent {
+    let n = before.numbers;
     say::word(b"record");
     Lent {
-        numbers: numbers_of(call.x, call.y),
+        numbers: numbers_of(call.x, call.y, n.family),
         size: call.z,
     }
 }
@@ -50,7 +51,7 @@ impl State {
     // Nothing lent, nothing listed.
     pub fn new() -> State {
         let none = Lent {
-            numbers: numbers_of(0, 0),
+            numbers: numbers_of(0, 0, 0),
             size: 0,
         };
         State {

@@ -1,10 +1,10 @@
 //! Calls that write one buffer.
 
 use super::Changed;
-use crate::{Numbers, Widths};
+use crate::{Fresh, Numbers, Widths};
 
 unsafe extern "C" {
-    fn strumblay_fresh(q: u8, r: u8, max: u8, buf: *mut u8, len: usize) -> Changed;
+    fn strumblay_fresh(q: u8, r: u8, max: u8, family: u64, buf: *mut u8, len: usize) -> Changed;
     fn strumblay_insert(b: *mut u8, len: usize, n: Numbers, hash: u64, max: u64) -> Changed;
     fn strumblay_insert_quick(b: *mut u8, len: usize, n: Numbers, hash: u64, max: u64) -> Changed;
     fn strumblay_remove(buf: *mut u8, len: usize, n: Numbers, hash: u64) -> Changed;
@@ -13,9 +13,9 @@ unsafe extern "C" {
 
 /// Makes the buffer an empty filter.
 #[inline]
-pub fn fresh(widths: Widths, buf: &mut [u8]) -> Changed {
-    let Widths { qbits, rbits, max_qbits } = widths;
-    unsafe { strumblay_fresh(qbits, rbits, max_qbits, buf.as_mut_ptr(), buf.len()) }
+pub fn fresh(fresh: Fresh, buf: &mut [u8]) -> Changed {
+    let Fresh { widths: Widths { qbits, rbits, max_qbits }, family } = fresh;
+    unsafe { strumblay_fresh(qbits, rbits, max_qbits, family, buf.as_mut_ptr(), buf.len()) }
 }
 
 /// One copy more if fewer than max_count are held, checked; answers the smaller of the two.

@@ -14,8 +14,8 @@ enum-known-made c = search needs
 enum-known-made-2 : tie.Need-enum-known-made-2
 enum-known-made-2 c = search needs
 
-cast-t11 : tie.Need-cast-t11
-cast-t11 c = search needs
+cast-t12 : tie.Need-cast-t12
+cast-t12 c = search needs
 
 empty-requires : tie.Need-empty-requires
 empty-requires c κs = search needs
@@ -46,7 +46,7 @@ strumblay-fresh-spec =
     fresh-requires
     enum-known-made
     enum-known-made-2
-    cast-t11
+    cast-t12
     empty-requires
     same-length
     returns

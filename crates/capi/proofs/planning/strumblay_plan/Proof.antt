@@ -14,8 +14,8 @@ enum-known-planned c = search needs
 enum-known-planned-2 : tie.Need-enum-known-planned-2
 enum-known-planned-2 c = search needs
 
-cast-t8 : tie.Need-cast-t8
-cast-t8 c = search needs
+cast-t9 : tie.Need-cast-t9
+cast-t9 c = search needs
 
 returns : tie.Need-returns
 returns c = record { answer = c .before .before .before .plan-resizeable .result; right = c .before .before .before .plan-resizeable .ensures; is = ap planOf (sym (c .before .planned .given .1)) }
@@ -30,6 +30,6 @@ strumblay-plan-spec =
     plan-resizeable-requires
     enum-known-planned
     enum-known-planned-2
-    cast-t8
+    cast-t9
     returns
     returns-2)
