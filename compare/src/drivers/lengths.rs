@@ -40,7 +40,9 @@ pub fn drive(effort: Effort) {
 
 /// A fresh filter in a destination that has the right length or nearly so.
 fn one(rng: &mut Rng, asked: Fresh) {
-    let right = Shape::new(asked.widths.qbits, asked.widths.rbits).map_or(89, Shape::buffer_len).min(LARGEST);
+    let right = Shape::new(asked.widths.qbits, asked.widths.rbits)
+        .map_or(89, Shape::buffer_len)
+        .min(LARGEST);
     let len = (right + rng.pick(&[0, 0, 0, 0, 1, 2, 9]))
         .saturating_sub(rng.pick(&[0, 0, 0, 0, 1, 8, LARGEST]));
     let mut dest = Guarded::garbage(len);

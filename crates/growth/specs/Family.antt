@@ -21,7 +21,7 @@ use Rattle.writing.specs.Writing.{TurnsOn, inserting, removing, Insert, InsertQ
 use Rattle.growth.specs.declared.rebuild.Rebuilt.the-variants.{Filter}
 use Rattle.growth.specs.declared.spare.Placed.{Placed}
 use Rattle.growth.specs.declared.spare.Placed.the-variants.{InOld, InSpare, Refused}
-use Rattle.growth.specs.Says.{PlacedIn, placedIn, placedSays, placed-tells}
+use Rattle.growth.specs.Says.{PlacedIn, placedSays, placed-tells}
 use Rattle.growth.specs.Rebuilding.{grownTo, Grows, growDue}
 use Rattle.growth.specs.Merging.{Merges}
 use Rattle.growth.specs.Spare.{Places, PlacedWithin, InsertSpare, InsertSpareQuick}
