@@ -29,10 +29,10 @@ pub fn from_model(filter: &Filter, image: &[u8]) -> qfilter::Filter {
     qfilter::Filter::from_parts(image, n.len, n.qbits, n.rbits, n.max_qbits)
 }
 
-/// The crate's record as the rules have it, of a family.
-pub fn numbers_of(filter: &qfilter::Filter, family: u64) -> Numbers {
+/// The crate's record as the rules have it, of family 0.
+pub fn numbers_of(filter: &qfilter::Filter) -> Numbers {
     let (len, qbits, rbits, max_qbits) = filter.parts();
-    Numbers { len, qbits, rbits, max_qbits, family }
+    Numbers { len, qbits, rbits, max_qbits, family: 0 }
 }
 
 /// The crate's widths.
@@ -118,7 +118,7 @@ impl Subject for Original {
     }
 
     fn numbers(&self) -> Numbers {
-        numbers_of(&self.filter, self.family)
+        Numbers { family: self.family, ..numbers_of(&self.filter) }
     }
 
     fn bytes(&self) -> &[u8] {

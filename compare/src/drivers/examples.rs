@@ -147,7 +147,7 @@ fn max_count_0(table: &mut Table) {
     table.holds("none is added", filter.len(), 0);
     let counts = [0, 0].map(|max_count| original.insert_without_growth(max_count, 5).ok());
     table.holds("the original's", counts, [Some(0), Some(1)]);
-    table.holds("the original adds", numbers_of(&original, 0).len, 1);
+    table.holds("the original adds", numbers_of(&original).len, 1);
     filter.add(5);
     table.holds("max_count 0, held", filter.insert(5, 0), Ok(0));
     table.holds("no second is added", filter.len(), 1);

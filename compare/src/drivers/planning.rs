@@ -7,7 +7,7 @@ use crate::model::planning::{
     bits, filter_specs, plan, plan_with, rbits_for, slots_for, specs_with,
 };
 use crate::model::{Shape, Specs, Widths};
-use crate::original::{number_of, widths_of};
+use crate::original::{number_of, numbers_of, widths_of};
 #[cfg(feature = "proved")]
 use crate::proved::planning as proved;
 use crate::seed::Rng;
@@ -171,7 +171,7 @@ fn buffer_len(plan: Widths) -> u64 {
 /// The plan that the original carried out; its buffer must be a fresh one of that plan.
 fn plan_of(filter: qfilter::Filter) -> Widths {
     let plan = widths_of(&filter);
-    let (len, ..) = filter.parts();
+    let len = numbers_of(&filter).len;
     assert!(len == 0 && filter.buffer().len() as u64 == buffer_len(plan));
     plan
 }

@@ -43,7 +43,7 @@ impl Lent {
         if filter.buffer().len() as u64 != self.size {
             return Err(12);
         }
-        self.numbers = numbers_of(filter, family);
+        self.numbers = Numbers { family, ..numbers_of(filter) };
         self.room[..self.size as usize].copy_from_slice(filter.buffer());
         Ok(())
     }

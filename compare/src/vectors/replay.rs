@@ -216,7 +216,7 @@ impl Replay {
         let mut filter = self.own.original();
         let count = filter.insert_fingerprint_counting(max_count, hash).map_err(number_of)?;
         let family = self.family();
-        let n = numbers_of(&filter, family);
+        let n = Numbers { family, ..numbers_of(&filter) };
         let grown = n.qbits != self.own.numbers.qbits;
         if grown {
             self.dest.take(&filter, family)?
