@@ -34,12 +34,13 @@ int main(void)
     printf("a buffer of %d bytes\n", (int)strumblay_buffer_len(QBITS, RBITS).value);
     strumblay_changed changed = strumblay_fresh(QBITS, RBITS, 0, family, buf, BYTES);
     for (size_t i = 0; i < sizeof retired / sizeof *retired && changed.number == 0; i++)
-        changed = strumblay_insert(buf, BYTES, changed.numbers, retired[i], 1);
+        changed = strumblay_insert(buf, BYTES, changed.record, retired[i], 1);
     if (changed.number != 0) {
         printf("refused %d\n", (int)changed.number);
         return 1;
     }
-    strumblay_numbers n = changed.numbers;
+    strumblay_record record = changed.record;
+    strumblay_numbers n = record.numbers;
 
     for (uint64_t hash = 0x0104; hash <= 0x0105; hash++) {
         strumblay_looked looked = strumblay_contains(buf, BYTES, n, hash);
@@ -49,12 +50,11 @@ int main(void)
 
     uint8_t other[BYTES], both[BYTES];
     for (uint64_t strange = 0; strange <= 1; strange++) {
-        strumblay_numbers m =
-            strumblay_fresh(QBITS, RBITS, 0, family + strange, other, BYTES).numbers;
-        m = strumblay_insert(other, BYTES, m, 0x3f07, 1).numbers;
-        changed = strumblay_merge(buf, BYTES, n, other, BYTES, m, 1, both, BYTES);
+        changed = strumblay_fresh(QBITS, RBITS, 0, family + strange, other, BYTES);
+        changed = strumblay_insert(other, BYTES, changed.record, 0x3f07, 1);
+        changed = strumblay_merge(buf, BYTES, record, other, BYTES, changed.record, 1, both, BYTES);
         printf("merged: number %d, len %d, family %d\n", (int)changed.number,
-               (int)changed.numbers.len, (int)changed.numbers.family);
+               (int)changed.record.numbers.len, (int)changed.record.family);
     }
 
     printf("one bit damaged\n");

@@ -1,6 +1,6 @@
 /* Strumblay: the retired list, for C on x86-64. Link target/staticlib/libcapi.a (`rt staticlib capi`).
  *
- * A filter is a lent buffer and a record of numbers that travels by value. No call allocates, keeps
+ * A filter is a lent buffer and a record that travels by value. No call allocates, keeps
  * a pointer, or reads or writes outside the bytes lent to it, whatever they and the numbers hold;
  * a buffer that a call writes must not overlap another one lent to it.
  *
@@ -42,20 +42,24 @@
 extern "C" {
 #endif
 
-/* The numbers of a filter: how many fingerprints it holds, the widths of quotient and remainder, the
- * largest qbits it may grow to, 0 for none, and the family. A fingerprint is the low qbits + rbits
- * bits of a hash; higher bits are ignored.
- *
- * The family is a number of yours that tells which hash the fingerprints come from. A fresh filter
- * takes it, every record given back has the one that was given, and filters of two families are not
- * merged. No other call asks for it, and the bytes of the buffer don't depend on it. */
+/* The numbers of a filter: how many fingerprints it holds, the widths of quotient and remainder,
+ * and the largest qbits it may grow to, 0 for none. A fingerprint is the low qbits + rbits bits of
+ * a hash; higher bits are ignored. */
 typedef struct {
     uint64_t len;
     uint8_t qbits;
     uint8_t rbits;
     uint8_t max_qbits;
-    uint64_t family;
 } strumblay_numbers;
+
+/* The record of a filter: its numbers, and the family, a number of yours that tells which hash the
+ * fingerprints come from. A fresh filter takes it, every record given back has the one that was
+ * given, and filters of two families are not merged. No other call asks for it, and the bytes of
+ * the buffer don't depend on it; so calls that only read take the numbers alone. */
+typedef struct {
+    strumblay_numbers numbers;
+    uint64_t family;
+} strumblay_record;
 
 /* A value. */
 typedef struct {
@@ -67,7 +71,7 @@ typedef struct {
 typedef struct {
     uint64_t number;
     uint64_t answer;
-    strumblay_numbers numbers;
+    strumblay_record record;
 } strumblay_changed;
 
 /* Planning: nothing is read or written. */
@@ -168,23 +172,23 @@ strumblay_next strumblay_list_step(const uint8_t *buf, size_t buf_len, strumblay
  * before and max_count. Refuses 7 where a copy is due and the filter is at its capacity. With
  * max_count 0 no copy is ever due: it answers 0, whatever is held, and changes nothing. A quick
  * insert that is refused, or has max_count 0, has changed nothing on any buffer. */
-strumblay_changed strumblay_insert(uint8_t *buf, size_t buf_len, strumblay_numbers n,
+strumblay_changed strumblay_insert(uint8_t *buf, size_t buf_len, strumblay_record r,
                                    uint64_t hash, uint64_t max_count);
-strumblay_changed strumblay_insert_quick(uint8_t *buf, size_t buf_len, strumblay_numbers n,
+strumblay_changed strumblay_insert_quick(uint8_t *buf, size_t buf_len, strumblay_record r,
                                          uint64_t hash, uint64_t max_count);
 
 /* One copy fewer: answers 1, or 0 if none is held. On a buffer that is not sound a quick remove may
  * refuse 6, and may have altered blocks by then. */
-strumblay_changed strumblay_remove(uint8_t *buf, size_t buf_len, strumblay_numbers n,
+strumblay_changed strumblay_remove(uint8_t *buf, size_t buf_len, strumblay_record r,
                                    uint64_t hash);
-strumblay_changed strumblay_remove_quick(uint8_t *buf, size_t buf_len, strumblay_numbers n,
+strumblay_changed strumblay_remove_quick(uint8_t *buf, size_t buf_len, strumblay_record r,
                                          uint64_t hash);
 
 /* Growth and merge, into a destination; a further 12 if its length is not the result's. */
 
 /* The same holding at qbits + 1 and rbits - 1; answers 0. Refuses 7 where max_qbits is none or
  * not above qbits. */
-strumblay_changed strumblay_grow(const uint8_t *buf, size_t buf_len, strumblay_numbers n,
+strumblay_changed strumblay_grow(const uint8_t *buf, size_t buf_len, strumblay_record r,
                                  uint8_t *dest, size_t dest_len);
 
 /* Both holdings together; answers 0. The result keeps the first's qbits + rbits and max_qbits, and
@@ -199,9 +203,9 @@ strumblay_changed strumblay_grow(const uint8_t *buf, size_t buf_len, strumblay_n
  *
  * Refuses the other's 1 to 6 after its own, then 19 if the families differ, then 8, then 7 where
  * there is no room. */
-strumblay_changed strumblay_merge(const uint8_t *buf, size_t buf_len, strumblay_numbers n,
+strumblay_changed strumblay_merge(const uint8_t *buf, size_t buf_len, strumblay_record r,
                                   const uint8_t *other, size_t other_len,
-                                  strumblay_numbers other_n, uint64_t keep_duplicates,
+                                  strumblay_record other_r, uint64_t keep_duplicates,
                                   uint8_t *dest, size_t dest_len);
 
 /* As strumblay_changed, and whether the spare holds the filter from now on (1 or 0). */
@@ -209,18 +213,18 @@ typedef struct {
     uint64_t number;
     uint64_t answer;
     uint64_t in_spare;
-    strumblay_numbers numbers;
+    strumblay_record record;
 } strumblay_spare_answer;
 
 /* Insert that, where it would refuse 7, grows into the spare and inserts there; the old buffer is
  * then as it was. Refuses 7 where it may not grow, then 12 where the spare's length is not that of
  * qbits + 1; a spare that is not needed is not looked at, so with max_count 0 it never is. On a
  * buffer that is not sound the quick form leaves the spare as it was. */
-strumblay_spare_answer strumblay_insert_spare(uint8_t *buf, size_t buf_len, strumblay_numbers n,
+strumblay_spare_answer strumblay_insert_spare(uint8_t *buf, size_t buf_len, strumblay_record r,
                                               uint64_t hash, uint64_t max_count,
                                               uint8_t *spare, size_t spare_len);
 strumblay_spare_answer strumblay_insert_spare_quick(uint8_t *buf, size_t buf_len,
-                                                    strumblay_numbers n, uint64_t hash,
+                                                    strumblay_record r, uint64_t hash,
                                                     uint64_t max_count, uint8_t *spare,
                                                     size_t spare_len);
 

@@ -13,6 +13,14 @@ use Rattle.filter.specs.Asking.{Contains, ContainsQuick, Count, CountQuick}
 use Rattle.capi.specs.Shown.{Shown}
 use Rattle.capi.specs.declared.planning.Outcome.{Outcome}
 use Rattle.capi.specs.declared.reading.Looked.{Looked}
+use Rattle.capi.specs.declared.reading.Sizes.{Sizes}
+
+-- the record of these sizes and a family; and a promise of all such records: no reading tells one family from another
+abbrev pub recordOf : Sizes → ℕ → Numbers
+recordOf n family = record { len = n .len; qbits = n .qbits; rbits = n .rbits; «max_qbits» = n .«max_qbits»; family = family }
+
+abbrev pub OfAny : Sizes → (Numbers → Type 0) → Type 0
+OfAny n P = (family : ℕ) → P (recordOf n family)
 
 -- 0 for sound, or the number
 abbrev pub verdictOf : Verdict → ℕ
@@ -21,6 +29,11 @@ verdictOf (verdict.Refused k) = k
 
 abbrev pub CheckOutcome : Numbers → List ℕ → ℕ → Type 0
 CheckOutcome n s r = Shown (Judged n s) verdictOf r
+
+-- whichever family the record is of
+pub judged-any : (n : Sizes) (family other : ℕ) (s : List ℕ) (v : Verdict) → Judged (recordOf n family) s v → Judged (recordOf n other) s v
+judged-any n family other s verdict.Sound h = h
+judged-any n family other s (verdict.Refused k) h = h
 
 -- what a lookup says, and zeros where it is refused
 abbrev pub lookedOf : Lookup → Looked

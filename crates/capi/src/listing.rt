@@ -1,10 +1,11 @@
 // Listing, by value: a place goes in and the next one comes out.
 ghost use mathlib.Core.Path.{_≡_};
+ghost use Rattle.capi.specs.Reading.{OfAny};
 ghost use Rattle.capi.specs.Listing.{begunOf, nextOf, BeginOutcome, StepOutcome};
+use crate::reading::Sizes;
 use filter::listing::Begun;
 use filter::listing::Place;
 use filter::listing::Step;
-use layout::numbers::Numbers;
 
 // The place of the first fingerprint, all 0 if refused.
 #[repr(C)]
@@ -67,18 +68,18 @@ fn as_next(step: Step, place: Place) -> Next
 
 // The place of the first fingerprint, after the check.
 #[no_mangle]
-pub extern "C" fn strumblay_list_begin(buf: &[u8], n: Numbers) -> First
-    ensures { λ r. ⌜ BeginOutcome n (now (buf .entry)) r ⌝ }
+pub extern "C" fn strumblay_list_begin(buf: &[u8], n: Sizes) -> First
+    ensures { λ r. ⌜ OfAny n (λ m. BeginOutcome m (now (buf .entry)) r) ⌝ }
 {
-    as_begun(filter::listing::begin(buf, n))
+    as_begun(filter::listing::begin(buf, n.numbers()))
 }
 
 // One step from a place, after asking 1 to 5.
 #[no_mangle]
-pub extern "C" fn strumblay_list_step(buf: &[u8], n: Numbers, place: Place) -> Next
-    ensures { λ r. ⌜ StepOutcome n (now (buf .entry)) place r ⌝ }
+pub extern "C" fn strumblay_list_step(buf: &[u8], n: Sizes, place: Place) -> Next
+    ensures { λ r. ⌜ OfAny n (λ m. StepOutcome m (now (buf .entry)) place r) ⌝ }
 {
-    let stepped = filter::listing::step_from(buf, n, place);
+    let stepped = filter::listing::step_from(buf, n.numbers(), place);
     let step = stepped.step;
     as_next(step, stepped.place)
 }
