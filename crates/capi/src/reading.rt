@@ -22,13 +22,7 @@ impl Sizes {
     pub fn numbers(self) -> Numbers
         ensures { λ r. ⌜ r ≡ recordOf self 0 ⌝ }
     {
-        Numbers {
-            len: self.len,
-            qbits: self.qbits,
-            rbits: self.rbits,
-            max_qbits: self.max_qbits,
-            family: 0,
-        }
+        Numbers::empty(self.qbits, self.rbits, self.max_qbits, 0).with_len(self.len)
     }
 }
 
