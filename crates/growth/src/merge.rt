@@ -165,7 +165,9 @@ fn merge_sound(
 {
     let width = n.qbits + n.rbits;
     let other_width = m.qbits + m.rbits;
-    if n.family != m.family {
+    let family = n.family;
+    let other_family = m.family;
+    if other_family != family {
         return Rebuilt::Refused(19);
     }
     if other_width < width {

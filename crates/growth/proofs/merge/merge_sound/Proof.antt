@@ -21,12 +21,12 @@ add-other-width c =
 
 returns : tie.Need-returns
 returns c =
-    let a = c .before .before .before .before .before .before .before .before .args in
+    let a = c .before .before .before .before .before .before .args in
     pair-differ (a .n) (now (a .buf)) (a .m) (now (a .other)) (a .keep) (now (a .dest)) (λ e. omega (arith, e))
 
 returns-2 : tie.Need-returns-2
 returns-2 c =
-    let a = c .before .before .before .before .before .before .before .before .before .args in
+    let a = c .before .before .before .before .before .before .before .args in
     pair-same (a .n) (now (a .buf)) (a .m) (now (a .other)) (a .keep) (now (a .dest)) _ _ (omega arith)
     (sound-narrower (a .n) (now (a .buf)) (a .m) (now (a .other)) (a .keep) (now (a .dest)) (c .if2 .taken))
 
@@ -38,7 +38,7 @@ same-length c = search needs
 
 returns-3 : tie.Need-returns-3
 returns-3 c =
-    let a = c .before .before .before .before .before .before .before .before .before .before .before .before .before .before .args in
+    let a = c .before .before .before .before .before .before .before .before .before .before .before .before .args in
     pair-same (a .n) (now (a .buf)) (a .m) (now (a .other)) (a .keep) (now (a .dest)) _ _ (omega arith)
     (sound-equal (a .n) (now (a .buf)) (a .m) (now (a .other)) (a .keep) (now (a .dest)) _ _ (c .before .before .before .before .if3 .taken) (c .before .before .merge-sorted .ensures))
 
@@ -50,7 +50,7 @@ same-length-2 c = search needs
 
 returns-4 : tie.Need-returns-4
 returns-4 c =
-    let a = c .before .before .before .before .before .before .before .before .before .before .before .before .before .before .args in
+    let a = c .before .before .before .before .before .before .before .before .before .before .before .before .args in
     pair-same (a .n) (now (a .buf)) (a .m) (now (a .other)) (a .keep) (now (a .dest)) _ _ (omega arith)
     (sound-wider (a .n) (now (a .buf)) (a .m) (now (a .other)) (a .keep) (now (a .dest)) _ _ (omega (arith, c .before .before .before .before .if3 .left, c .before .before .before .before .before .if2 .left)) (c .before .before .merge-wider .ensures))
 
