@@ -42,7 +42,7 @@ numbers-of-requires : tie.Need-numbers-of-requires
 numbers-of-requires c κs = none-header _ (none c) .0
 
 sub-buf : tie.Need-sub-buf
-sub-buf c = none-header _ (none (c .before)) .0
+sub-buf c = omega (arith, none-header _ (none (c .before)) .0)
 
 part-buf-start : tie.Need-part-buf-start
 part-buf-start c = sub-buf c
