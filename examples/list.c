@@ -1,5 +1,5 @@
 /* Makes a list of three retired fingerprints, looks at it, lists it, merges it with one of its
- * family and one of another, and damages a byte.
+ * family and with one of another, which is refused, and damages a byte.
  * `examples/run` compiles it, runs it and compares what it writes with list.stdout. */
 #include "strumblay.h"
 
@@ -11,7 +11,7 @@ enum { QBITS = 6, RBITS = 8, BYTES = 89 };
 static const uint64_t family = 2026;
 
 /* Writes every fingerprint, or the number of the refusal. */
-static void list(const uint8_t *buf, strumblay_numbers n)
+static void list(const uint8_t *buf, strumblay_sizes n)
 {
     strumblay_first first = strumblay_list_begin(buf, BYTES, n);
     if (first.number != 0) {
@@ -34,13 +34,13 @@ int main(void)
     printf("a buffer of %d bytes\n", (int)strumblay_buffer_len(QBITS, RBITS).value);
     strumblay_changed changed = strumblay_fresh(QBITS, RBITS, 0, family, buf, BYTES);
     for (size_t i = 0; i < sizeof retired / sizeof *retired && changed.number == 0; i++)
-        changed = strumblay_insert(buf, BYTES, changed.record, retired[i], 1);
+        changed = strumblay_insert(buf, BYTES, changed.numbers, retired[i], 1);
     if (changed.number != 0) {
         printf("refused %d\n", (int)changed.number);
         return 1;
     }
-    strumblay_record record = changed.record;
-    strumblay_numbers n = record.numbers;
+    strumblay_numbers numbers = changed.numbers;
+    strumblay_sizes n = numbers.sizes;
 
     for (uint64_t hash = 0x0104; hash <= 0x0105; hash++) {
         strumblay_looked looked = strumblay_contains(buf, BYTES, n, hash);
@@ -51,10 +51,11 @@ int main(void)
     uint8_t other[BYTES], both[BYTES];
     for (uint64_t strange = 0; strange <= 1; strange++) {
         changed = strumblay_fresh(QBITS, RBITS, 0, family + strange, other, BYTES);
-        changed = strumblay_insert(other, BYTES, changed.record, 0x3f07, 1);
-        changed = strumblay_merge(buf, BYTES, record, other, BYTES, changed.record, 1, both, BYTES);
+        changed = strumblay_insert(other, BYTES, changed.numbers, 0x3f07, 1);
+        changed =
+            strumblay_merge(buf, BYTES, numbers, other, BYTES, changed.numbers, 1, both, BYTES);
         printf("merged: number %d, len %d, family %d\n", (int)changed.number,
-               (int)changed.record.numbers.len, (int)changed.record.family);
+               (int)changed.numbers.sizes.len, (int)changed.numbers.family);
     }
 
     printf("one bit damaged\n");

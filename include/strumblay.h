@@ -26,7 +26,7 @@
  *
  * The capacity is 19/20 of the slots, rounded up; no call that writes makes a fuller filter.
  *
- * The lowest of 1 to 6 is given first, then 19, 8, 7, 12; planning gives 11, 10, 9. A call checks 1 to 6
+ * First comes the lowest of 1 to 6, then 19, 8, 7, 12; planning gives 11, 10, 9. A call checks 1 to 6
  * before it works. One that ends in `_quick`, and a step of a listing, asks 1 to 5: on a buffer that
  * is not sound it ends and stays inside, but its answer may be anything, 6 included, and a quick
  * writer may alter the blocks; the last eight bytes stay, and of the record only len is open, which
@@ -42,24 +42,24 @@
 extern "C" {
 #endif
 
-/* The numbers of a filter: how many fingerprints it holds, the widths of quotient and remainder,
- * and the largest qbits it may grow to, 0 for none. A fingerprint is the low qbits + rbits bits of
- * a hash; higher bits are ignored. */
+/* What a filter is by its sizes: how many fingerprints it holds, the widths of quotient and
+ * remainder, and the largest qbits it may grow to, 0 for none. A fingerprint is the low qbits + rbits
+ * bits of a hash; higher bits are ignored. */
 typedef struct {
     uint64_t len;
     uint8_t qbits;
     uint8_t rbits;
     uint8_t max_qbits;
-} strumblay_numbers;
+} strumblay_sizes;
 
-/* The record of a filter: its numbers, and the family, a number of yours that tells which hash the
- * fingerprints come from. A fresh filter takes it, every record given back has the one that was
- * given, and filters of two families are not merged. No other call asks for it, and the bytes of
- * the buffer don't depend on it; so calls that only read take the numbers alone. */
+/* The record of a filter: its sizes, and the family, a number of yours that says which hash made the
+ * fingerprints. A fresh filter takes it, every record given back has the one that was given, and
+ * filters of two families are not merged. No other call asks for it, and the bytes of a sound filter
+ * don't depend on it; so calls that only read take the sizes alone. */
 typedef struct {
-    strumblay_numbers numbers;
+    strumblay_sizes sizes;
     uint64_t family;
-} strumblay_record;
+} strumblay_numbers;
 
 /* A value. */
 typedef struct {
@@ -71,7 +71,7 @@ typedef struct {
 typedef struct {
     uint64_t number;
     uint64_t answer;
-    strumblay_record record;
+    strumblay_numbers numbers;
 } strumblay_changed;
 
 /* Planning: nothing is read or written. */
@@ -108,14 +108,14 @@ strumblay_planned strumblay_plan(uint64_t initial, uint64_t max, double rate);
 /* The bytes of a buffer of these widths. Refuses 1. */
 strumblay_outcome strumblay_buffer_len(uint8_t qbits, uint8_t rbits);
 
-/* Makes the buffer an empty filter; answers 0. Refuses 1, 4, 12. */
+/* Makes the buffer an empty filter of these widths and this family; answers 0. Refuses 1, 4, 12. */
 strumblay_changed strumblay_fresh(uint8_t qbits, uint8_t rbits, uint8_t max_qbits, uint64_t family,
                                   uint8_t *buf, size_t buf_len);
 
 /* Check, lookup and count. */
 
 /* 0 if the filter is sound, else the lowest of 1 to 6 that is due. */
-uint64_t strumblay_check(const uint8_t *buf, size_t buf_len, strumblay_numbers n);
+uint64_t strumblay_check(const uint8_t *buf, size_t buf_len, strumblay_sizes n);
 
 /* Whether it is held (1 or 0), and the remainders compared to find out. */
 typedef struct {
@@ -124,15 +124,15 @@ typedef struct {
     uint64_t compared;
 } strumblay_looked;
 
-strumblay_looked strumblay_contains(const uint8_t *buf, size_t buf_len, strumblay_numbers n,
+strumblay_looked strumblay_contains(const uint8_t *buf, size_t buf_len, strumblay_sizes n,
                                     uint64_t hash);
-strumblay_looked strumblay_contains_quick(const uint8_t *buf, size_t buf_len, strumblay_numbers n,
+strumblay_looked strumblay_contains_quick(const uint8_t *buf, size_t buf_len, strumblay_sizes n,
                                           uint64_t hash);
 
 /* How often it is held. */
-strumblay_outcome strumblay_count(const uint8_t *buf, size_t buf_len, strumblay_numbers n,
+strumblay_outcome strumblay_count(const uint8_t *buf, size_t buf_len, strumblay_sizes n,
                                   uint64_t hash);
-strumblay_outcome strumblay_count_quick(const uint8_t *buf, size_t buf_len, strumblay_numbers n,
+strumblay_outcome strumblay_count_quick(const uint8_t *buf, size_t buf_len, strumblay_sizes n,
                                         uint64_t hash);
 
 /* Listing: ascending fingerprints, each as often as held. */
@@ -150,7 +150,7 @@ typedef struct {
 } strumblay_first;
 
 /* Where the listing begins. Refuses 1 to 6. */
-strumblay_first strumblay_list_begin(const uint8_t *buf, size_t buf_len, strumblay_numbers n);
+strumblay_first strumblay_list_begin(const uint8_t *buf, size_t buf_len, strumblay_sizes n);
 
 /* Whether there was a fingerprint (1 or 0: done), it, and the place after it. A refused step
  * gives back the place it was given. */
@@ -163,7 +163,7 @@ typedef struct {
 
 /* One step. Refuses 1 to 5. At a place that is not the listing's own, or after the buffer changed,
  * it ends and stays inside, but gives anything. */
-strumblay_next strumblay_list_step(const uint8_t *buf, size_t buf_len, strumblay_numbers n,
+strumblay_next strumblay_list_step(const uint8_t *buf, size_t buf_len, strumblay_sizes n,
                                    strumblay_place place);
 
 /* Insert and remove. */
@@ -172,23 +172,23 @@ strumblay_next strumblay_list_step(const uint8_t *buf, size_t buf_len, strumblay
  * before and max_count. Refuses 7 where a copy is due and the filter is at its capacity. With
  * max_count 0 no copy is ever due: it answers 0, whatever is held, and changes nothing. A quick
  * insert that is refused, or has max_count 0, has changed nothing on any buffer. */
-strumblay_changed strumblay_insert(uint8_t *buf, size_t buf_len, strumblay_record r,
+strumblay_changed strumblay_insert(uint8_t *buf, size_t buf_len, strumblay_numbers n,
                                    uint64_t hash, uint64_t max_count);
-strumblay_changed strumblay_insert_quick(uint8_t *buf, size_t buf_len, strumblay_record r,
+strumblay_changed strumblay_insert_quick(uint8_t *buf, size_t buf_len, strumblay_numbers n,
                                          uint64_t hash, uint64_t max_count);
 
 /* One copy fewer: answers 1, or 0 if none is held. On a buffer that is not sound a quick remove may
  * refuse 6, and may have altered blocks by then. */
-strumblay_changed strumblay_remove(uint8_t *buf, size_t buf_len, strumblay_record r,
+strumblay_changed strumblay_remove(uint8_t *buf, size_t buf_len, strumblay_numbers n,
                                    uint64_t hash);
-strumblay_changed strumblay_remove_quick(uint8_t *buf, size_t buf_len, strumblay_record r,
+strumblay_changed strumblay_remove_quick(uint8_t *buf, size_t buf_len, strumblay_numbers n,
                                          uint64_t hash);
 
 /* Growth and merge, into a destination; a further 12 if its length is not the result's. */
 
 /* The same holding at qbits + 1 and rbits - 1; answers 0. Refuses 7 where max_qbits is none or
  * not above qbits. */
-strumblay_changed strumblay_grow(const uint8_t *buf, size_t buf_len, strumblay_record r,
+strumblay_changed strumblay_grow(const uint8_t *buf, size_t buf_len, strumblay_numbers n,
                                  uint8_t *dest, size_t dest_len);
 
 /* Both holdings together; answers 0. The result keeps the first's qbits + rbits and max_qbits, and
@@ -203,9 +203,9 @@ strumblay_changed strumblay_grow(const uint8_t *buf, size_t buf_len, strumblay_r
  *
  * Refuses the other's 1 to 6 after its own, then 19 if the families differ, then 8, then 7 where
  * there is no room. */
-strumblay_changed strumblay_merge(const uint8_t *buf, size_t buf_len, strumblay_record r,
+strumblay_changed strumblay_merge(const uint8_t *buf, size_t buf_len, strumblay_numbers n,
                                   const uint8_t *other, size_t other_len,
-                                  strumblay_record other_r, uint64_t keep_duplicates,
+                                  strumblay_numbers other_n, uint64_t keep_duplicates,
                                   uint8_t *dest, size_t dest_len);
 
 /* As strumblay_changed, and whether the spare holds the filter from now on (1 or 0). */
@@ -213,18 +213,18 @@ typedef struct {
     uint64_t number;
     uint64_t answer;
     uint64_t in_spare;
-    strumblay_record record;
+    strumblay_numbers numbers;
 } strumblay_spare_answer;
 
 /* Insert that, where it would refuse 7, grows into the spare and inserts there; the old buffer is
  * then as it was. Refuses 7 where it may not grow, then 12 where the spare's length is not that of
  * qbits + 1; a spare that is not needed is not looked at, so with max_count 0 it never is. On a
  * buffer that is not sound the quick form leaves the spare as it was. */
-strumblay_spare_answer strumblay_insert_spare(uint8_t *buf, size_t buf_len, strumblay_record r,
+strumblay_spare_answer strumblay_insert_spare(uint8_t *buf, size_t buf_len, strumblay_numbers n,
                                               uint64_t hash, uint64_t max_count,
                                               uint8_t *spare, size_t spare_len);
 strumblay_spare_answer strumblay_insert_spare_quick(uint8_t *buf, size_t buf_len,
-                                                    strumblay_record r, uint64_t hash,
+                                                    strumblay_numbers n, uint64_t hash,
                                                     uint64_t max_count, uint8_t *spare,
                                                     size_t spare_len);
 

@@ -11,7 +11,7 @@ pub type Result<T> = core::result::Result<T, Error>;
 /// ```
 /// use strumblay::{Error, Filter, Numbers};
 ///
-/// let numbers = Numbers { qbits: 5, rbits: 8, ..Numbers::default() };
+/// let numbers = Numbers { len: 0, qbits: 5, rbits: 8, max_qbits: 0, family: 1 };
 /// let refused = Filter::from_parts([], numbers).check().unwrap_err();
 /// assert_eq!(refused, Error::WIDTHS);
 /// assert_eq!(refused.number(), 1);
@@ -50,7 +50,7 @@ impl Error {
     /// 12: the destination has the wrong length.
     pub const DESTINATION_LENGTH: Error = Error(12);
     /// 19: the two filters are of two families.
-    pub const FAMILIES: Error = Error(19);
+    pub const TWO_FAMILIES: Error = Error(19);
 
     /// The number, from 1.
     pub const fn number(self) -> u8 {

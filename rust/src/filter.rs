@@ -16,14 +16,15 @@ pub struct Lookup {
 
 /// A filter over a buffer: `Vec<u8>`, `&mut [u8]`, or `&[u8]` for reading.
 ///
-/// Only the low qbits + rbits bits of a hash count.
+/// Only the low qbits + rbits bits of a hash count. Two filters are equal if their buffers and their
+/// whole records are, max_qbits and family included.
 ///
 /// ```
 /// use strumblay::{Error, Filter, Widths};
 ///
 /// let widths = Widths::new(6, 8);
 /// let mut bytes = [0; 89];
-/// let mut filter = Filter::fresh(&mut bytes[..], widths)?;
+/// let mut filter = Filter::fresh(&mut bytes[..], widths.family(1))?;
 /// for hash in [0x0203, 0x0103, 0x0105] {
 ///     filter.insert(hash, 1)?;
 /// }
@@ -40,7 +41,8 @@ pub struct Filter<B> {
 }
 
 impl<B> Filter<B> {
-    /// A filter from its parts, which nobody has looked at yet: every call asks for itself.
+    /// A filter from its parts, which nobody has looked at yet: every call asks for itself. The
+    /// family is believed, as nothing in the buffer tells it.
     pub const fn from_parts(buffer: B, numbers: Numbers) -> Filter<B> {
         Filter { buffer, numbers }
     }
@@ -74,8 +76,7 @@ impl<B> Filter<B> {
 impl Filter<Vec<u8>> {
     /// An empty filter in a buffer of its own, of [`Widths`] and a [family](Widths::family). Refuses
     /// 1, 4.
-    pub fn new(fresh: impl Into<Fresh>) -> Result<Filter<Vec<u8>>> {
-        let fresh = fresh.into();
+    pub fn new(fresh: Fresh) -> Result<Filter<Vec<u8>>> {
         let buffer = vec![0; fresh.widths.buffer_len()?];
         Filter::fresh(buffer, fresh)
     }
@@ -106,7 +107,7 @@ impl<B: AsRef<[u8]>> Filter<B> {
     ///
     /// ```
     /// # use strumblay::{Error, Filter, Widths};
-    /// let mut filter = Filter::new(Widths::new(13, 8))?;
+    /// let mut filter = Filter::new(Widths::new(13, 8).family(1))?;
     /// filter.insert_quick(0x7a_31c5, 1)?;
     /// assert!(filter.contains_quick(0x7a_31c5)?);
     /// // The hash's bits above the 21 don't count.
@@ -145,9 +146,10 @@ fn found(looked: ffi::Looked) -> Result<Lookup> {
 }
 
 impl<B: AsMut<[u8]>> Filter<B> {
-    /// Makes the buffer an empty filter, whatever it held. Refuses 1, 4, and 12 for its length.
-    pub fn fresh(mut buffer: B, fresh: impl Into<Fresh>) -> Result<Filter<B>> {
-        let made = ffi::fresh(fresh.into(), buffer.as_mut());
+    /// Makes the buffer an empty filter of these widths and this family, whatever it held. Refuses 1,
+    /// 4, and 12 for its length.
+    pub fn fresh(mut buffer: B, fresh: Fresh) -> Result<Filter<B>> {
+        let made = ffi::fresh(fresh, buffer.as_mut());
         Error::unless(made.number, Filter { buffer, numbers: made.numbers })
     }
 
@@ -157,7 +159,7 @@ impl<B: AsMut<[u8]>> Filter<B> {
     ///
     /// ```
     /// # use strumblay::{Error, Filter, Widths};
-    /// let mut filter = Filter::new(Widths::new(6, 8))?;
+    /// let mut filter = Filter::new(Widths::new(6, 8).family(1))?;
     /// assert_eq!(filter.insert(0x0103, 2)?, 0);
     /// assert_eq!(filter.insert(0x0103, 2)?, 1);
     /// assert_eq!(filter.insert(0x0103, 2)?, 2);
@@ -181,10 +183,10 @@ impl<B: AsMut<[u8]>> Filter<B> {
     ///
     /// ```
     /// # use strumblay::{Error, Filter, Widths};
-    /// let mut filter = Filter::new(Widths::new(6, 8))?;
+    /// let mut filter = Filter::new(Widths::new(6, 8).family(1))?;
     /// filter.insert(0x0103, 1)?;
     /// assert!(filter.remove(0x0103)? && !filter.remove(0x0103)?);
-    /// assert_eq!(filter, Filter::new(Widths::new(6, 8))?);
+    /// assert_eq!(filter, Filter::new(Widths::new(6, 8).family(1))?);
     /// # Ok::<(), Error>(())
     /// ```
     pub fn remove(&mut self, hash: u64) -> Result<bool> {

@@ -37,7 +37,7 @@ impl<B: AsRef<[u8]>> Filter<B> {
     ///
     /// ```
     /// # use strumblay::{Error, Filter, Widths};
-    /// let mut filter = Filter::new(Widths { qbits: 6, rbits: 8, max_qbits: 7 })?;
+    /// let mut filter = Filter::new(Widths { qbits: 6, rbits: 8, max_qbits: 7 }.family(1))?;
     /// filter.insert(0x0103, 1)?;
     /// let grown = filter.grown()?;
     /// assert!(grown.contains(0x0103)?);
@@ -54,15 +54,16 @@ impl<B: AsRef<[u8]>> Filter<B> {
     ///
     /// ```
     /// # use strumblay::{Error, Filter, Widths};
-    /// let (mut home, mut away) = (Filter::new(Widths::new(6, 8))?, Filter::new(Widths::new(6, 8))?);
+    /// let widths = Widths::new(6, 8);
+    /// let (mut home, mut away) = (Filter::new(widths.family(1))?, Filter::new(widths.family(1))?);
     /// home.insert(0x0103, 1)?;
     /// away.insert(0x0103, 1)?;
     /// away.insert(0x0203, 1)?;
     /// assert!(home.merged(&away, true)?.fingerprints()?.eq([0x0103, 0x0103, 0x0203]));
     /// assert!(home.merged(&away, false)?.fingerprints()?.eq([0x0103, 0x0203]));
     /// // Of another hash.
-    /// let strange = Filter::new(Widths::new(6, 8).family(1))?;
-    /// assert_eq!(home.merged(&strange, true), Err(Error::FAMILIES));
+    /// let strange = Filter::new(widths.family(2))?;
+    /// assert_eq!(home.merged(&strange, true), Err(Error::TWO_FAMILIES));
     /// # Ok::<(), Error>(())
     /// ```
     pub fn merged<C: AsRef<[u8]>>(
@@ -100,7 +101,7 @@ impl<B: AsMut<[u8]>> Filter<B> {
     /// let widths = Widths { qbits: 6, rbits: 8, max_qbits: 7 };
     /// let (mut old, mut new) = ([0; 89], [0; 154]);
     /// let mut spare = &mut new[..];
-    /// let mut filter = Filter::fresh(&mut old[..], widths)?;
+    /// let mut filter = Filter::fresh(&mut old[..], widths.family(1))?;
     /// for hash in 0..62 {
     ///     filter.insert_spare(hash, 1, &mut spare)?;
     /// }
@@ -138,7 +139,7 @@ impl Filter<Vec<u8>> {
     ///
     /// ```
     /// # use strumblay::{Error, Filter, Widths};
-    /// let mut filter = Filter::new(Widths::planned(10, 1000, 0.01)?)?;
+    /// let mut filter = Filter::new(Widths::planned(10, 1000, 0.01)?.family(1))?;
     /// for hash in 0..1000 {
     ///     filter.insert_growing(hash, 1)?;
     /// }

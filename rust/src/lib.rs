@@ -7,8 +7,8 @@
 //! ```
 //! use strumblay::{Error, Filter, Widths};
 //!
-//! // For 1,000 fingerprints, with a false yes in a hundred at the most.
-//! let mut filter = Filter::new(Widths::planned(1000, 1000, 0.01)?)?;
+//! // For 1,000 fingerprints of a hash that we call 1, with a false yes in a hundred at the most.
+//! let mut filter = Filter::new(Widths::planned(1000, 1000, 0.01)?.family(1))?;
 //! let (replaced, arriving) = (0x51_46ab, 0x9c_0e12);
 //! assert_eq!(filter.insert(replaced, 1)?, 0);
 //! assert!(filter.contains(replaced)?);
@@ -41,7 +41,7 @@
 //! # Families
 //! A filter cannot tell which hash its fingerprints come from, so its record says: a number of
 //! yours, which [`Widths::family`] gives to a fresh filter and every call carries on. Filters of two
-//! families are not merged, [`Error::FAMILIES`]; no other call asks.
+//! families are not merged, [`Error::TWO_FAMILIES`]; no other call asks.
 #![no_std]
 
 extern crate alloc;

@@ -16,7 +16,7 @@ impl<B: AsRef<[u8]>> Filter<B> {
     ///
     /// ```
     /// # use strumblay::{Error, Filter, Widths};
-    /// let mut filter = Filter::new(Widths::new(6, 8))?;
+    /// let mut filter = Filter::new(Widths::new(6, 8).family(1))?;
     /// for hash in [0x3f07, 0x0103, 0x3f07] {
     ///     filter.insert(hash, u64::MAX)?;
     /// }
@@ -42,7 +42,7 @@ impl<B: AsRef<[u8]>> Filter<B> {
     ///
     /// ```
     /// # use strumblay::{Error, Filter, Place, Widths};
-    /// let mut filter = Filter::new(Widths::new(6, 8))?;
+    /// let mut filter = Filter::new(Widths::new(6, 8).family(1))?;
     /// filter.insert(0x0103, 1)?;
     /// let mut place = filter.first()?;
     /// assert_eq!(place, Place { quotient: 1, slot: 1, remaining: 1 });

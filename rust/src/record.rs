@@ -1,6 +1,7 @@
-//! What goes to the library and comes back from it by value, laid out for C.
+//! What goes to the library and comes back from it by value, laid out for C but for `Fresh`.
 
-/// The record beside a buffer; saved together with it.
+/// The record beside a buffer; saved together with it. A list that was saved before there was a
+/// family is given one here.
 #[repr(C)]
 #[derive(Clone, Copy, PartialEq, Eq, Hash, Debug, Default)]
 pub struct Numbers {
@@ -12,7 +13,7 @@ pub struct Numbers {
     pub rbits: u8,
     /// The largest qbits that it may grow to, or 0 for none.
     pub max_qbits: u8,
-    /// Tells the hash that the fingerprints come from: filters of two families are never merged.
+    /// Says which hash made the fingerprints: filters of two families are never merged.
     pub family: u64,
 }
 
@@ -41,19 +42,17 @@ pub struct Widths {
 }
 
 /// What a fresh filter is made of: its widths, and the family of its fingerprints. Give each hash
-/// that you use a number of your own, the same wherever lists may meet.
+/// that you use a number of your own, the same wherever lists may meet, and never the same to two.
 ///
 /// ```
-/// use strumblay::{Error, Filter, Fresh, Widths};
+/// use strumblay::{Error, Filter, Widths};
 ///
-/// let filter = Filter::new(Widths::new(6, 8).family(7))?;
-/// assert_eq!(filter.family(), 7);
-/// // Of widths alone it is family 0.
-/// assert_eq!(Fresh::from(Widths::new(6, 8)), Widths::new(6, 8).family(0));
-/// assert_eq!(Filter::new(Widths::new(6, 8))?.family(), 0);
+/// let filter = Filter::new(Widths::new(6, 8).family(2026))?;
+/// assert_eq!(filter.family(), 2026);
 /// # Ok::<(), Error>(())
 /// ```
 #[derive(Clone, Copy, PartialEq, Eq, Hash, Debug, Default)]
+#[must_use]
 pub struct Fresh {
     /// The widths.
     pub widths: Widths,
@@ -65,12 +64,6 @@ impl Widths {
     /// A fresh filter of these widths, for the fingerprints of this family.
     pub const fn family(self, family: u64) -> Fresh {
         Fresh { widths: self, family }
-    }
-}
-
-impl From<Widths> for Fresh {
-    fn from(widths: Widths) -> Fresh {
-        widths.family(0)
     }
 }
 

@@ -4,8 +4,11 @@ use strumblay::{Error, Filter, Lookup, Numbers, Place, Widths};
 
 const SMALL: Widths = Widths::new(6, 8);
 
+/// A family with bits set at both ends.
+const FAMILY: u64 = 0xfedc_ba98_7654_3211;
+
 fn of(hashes: &[u64]) -> Filter<Vec<u8>> {
-    let mut filter = Filter::new(SMALL).unwrap();
+    let mut filter = Filter::new(SMALL.family(FAMILY)).unwrap();
     for &hash in hashes {
         filter.insert(hash, u64::MAX).unwrap();
     }
@@ -104,7 +107,7 @@ fn zero_on_a_damaged_buffer() {
 fn refusals_in_order() {
     let buffer = of(&[0x0103]).into_parts().0;
     let check = |buffer: &[u8], len, qbits, max_qbits| {
-        Filter::from_parts(buffer, Numbers { len, qbits, rbits: 8, max_qbits, family: 9 }).check()
+        Filter::from_parts(buffer, Numbers { len, qbits, rbits: 8, max_qbits, family: 1 }).check()
     };
     assert_eq!(check(&buffer, 1, 6, 0), Ok(()));
     assert_eq!(check(&buffer[..0], 65, 5, 5), Err(Error::WIDTHS));
@@ -134,7 +137,10 @@ fn refused_calls_change_nothing() {
     assert_eq!(short.step(&mut place), Err(Error::BUFFER_LENGTH));
     assert_eq!(place, Place { quotient: 9, slot: 9, remaining: 9 });
     assert_eq!(short.contains_quick(0x0103), Err(Error::BUFFER_LENGTH));
-    assert_eq!(Filter::fresh(&mut buffer[1..], SMALL).err(), Some(Error::DESTINATION_LENGTH));
+    assert_eq!(
+        Filter::fresh(&mut buffer[1..], SMALL.family(1)).err(),
+        Some(Error::DESTINATION_LENGTH)
+    );
 }
 
 #[test]
@@ -149,7 +155,7 @@ fn planning() {
 
 #[test]
 fn four_hundred_and_one_removed() {
-    let mut filter = Filter::new(Widths::new(9, 8)).unwrap();
+    let mut filter = Filter::new(Widths::new(9, 8).family(FAMILY)).unwrap();
     for hash in 0..400 {
         filter.insert_quick(hash % 256, u64::MAX).unwrap();
     }
@@ -166,7 +172,7 @@ fn four_hundred_and_one_removed() {
 fn growth_and_merge() {
     let filter = of(&[0x0103, 0x0105]);
     assert_eq!(filter.grown(), Err(Error::NO_ROOM));
-    let narrow = Filter::new(Widths::new(6, 7)).unwrap();
+    let narrow = Filter::new(Widths::new(6, 7).family(FAMILY)).unwrap();
     assert_eq!(filter.merged(&narrow, true), Err(Error::NARROWER));
     assert_eq!(filter.merge_into(&filter, true, [0; 88]).err(), Some(Error::DESTINATION_LENGTH));
     assert_eq!(filter.merged(&filter, true).unwrap().count(0x0105), Ok(2));
@@ -180,18 +186,16 @@ fn growth_and_merge() {
     assert_eq!((many.len(), many.numbers().qbits), (123, 8));
 }
 
-/// A family with bits set at both ends.
-const FAMILY: u64 = 0xfedc_ba98_7654_3211;
-
 #[test]
 fn every_call_carries_the_family_on() {
     let widths = Widths { max_qbits: 8, ..SMALL };
     let mut filter = Filter::new(widths.family(FAMILY)).unwrap();
-    let mut spare = vec![0; 154];
-    assert_eq!(filter.insert(1, 1), Ok(0));
+    let mut spare = vec![0; Widths::new(7, 7).buffer_len().unwrap()];
+    assert_eq!((filter.insert(1, 1), filter.family()), (Ok(0), FAMILY));
     assert_eq!((filter.insert_quick(2, 1), filter.family()), (Ok(0), FAMILY));
     assert_eq!((filter.remove(1), filter.family()), (Ok(true), FAMILY));
     assert_eq!((filter.remove_quick(2), filter.family()), (Ok(true), FAMILY));
+    assert_eq!((filter.remove(2), filter.family()), (Ok(false), FAMILY));
     assert_eq!((filter.insert_spare(3, 1, &mut spare), filter.family()), (Ok(0), FAMILY));
     assert_eq!((filter.insert_spare_quick(4, 1, &mut spare), filter.family()), (Ok(0), FAMILY));
     assert_eq!(filter.grown().unwrap().family(), FAMILY);
@@ -199,7 +203,7 @@ fn every_call_carries_the_family_on() {
         filter.insert_spare(hash, 1, &mut spare).unwrap();
     }
     assert_eq!((filter.numbers().qbits, filter.family()), (7, FAMILY));
-    let mut spare = vec![0; 284];
+    let mut spare = vec![0; Widths::new(8, 6).buffer_len().unwrap()];
     for hash in 0..123 {
         filter.insert_spare_quick(hash, 1, &mut spare).unwrap();
     }
@@ -213,13 +217,14 @@ fn every_call_carries_the_family_on() {
 fn two_families_are_not_merged() {
     let mine = Filter::new(SMALL.family(FAMILY)).unwrap();
     for family in [0, FAMILY ^ 1, FAMILY ^ 1 << 63] {
-        // Of equal, of wider and of narrower fingerprints: 19 is asked before 8, and before 12.
-        for rbits in [8, 9, 7] {
+        // Of equal, of wider and of narrower fingerprints, into a destination that would do and one
+        // that would not: 19 is asked before 8 and 12.
+        for (rbits, len) in [(8, 89), (9, 89), (7, 89), (8, 88)] {
             let theirs = Filter::new(Widths::new(6, rbits).family(family)).unwrap();
-            assert_eq!(mine.merged(&theirs, true), Err(Error::FAMILIES));
-            let mut dest = [9; 88];
-            assert_eq!(mine.merge_into(&theirs, false, &mut dest[..]).err(), Some(Error::FAMILIES));
-            assert_eq!(dest, [9; 88]);
+            let mut dest = vec![9; len];
+            let refused = mine.merge_into(&theirs, rbits == 8, &mut dest[..]).err();
+            assert_eq!((refused, dest), (Some(Error::TWO_FAMILIES), vec![9; len]));
+            assert_eq!(mine.merged(&theirs, true), Err(Error::TWO_FAMILIES));
         }
         let (mut buffer, numbers) = Filter::new(SMALL.family(family)).unwrap().into_parts();
         buffer[0] = 1;
@@ -227,7 +232,7 @@ fn two_families_are_not_merged() {
         assert_eq!(mine.merged(&damaged, true), Err(Error::NOT_SOUND));
         assert_eq!(damaged.merged(&mine, true), Err(Error::NOT_SOUND));
     }
-    assert_eq!(Error::FAMILIES.to_string(), "refused 19: the two filters are of two families");
+    assert_eq!(Error::TWO_FAMILIES.to_string(), "refused 19: the two filters are of two families");
 }
 
 #[test]
@@ -235,6 +240,5 @@ fn the_family_is_not_in_the_bytes() {
     let mut filters = [0, FAMILY].map(|family| Filter::new(SMALL.family(family)).unwrap());
     filters.iter_mut().for_each(|filter| assert_eq!(filter.insert(0x0103, 1), Ok(0)));
     assert_eq!(filters[0].buffer(), filters[1].buffer());
-    assert_eq!(filters[1].check(), Ok(()));
-    assert_eq!(filters[1].lookup(0x0103), filters[0].lookup(0x0103));
+    assert_ne!(filters[0], filters[1]);
 }

@@ -154,13 +154,14 @@ fn max_count_0(table: &mut Table) {
     table.holds("max_count 1, held", filter.insert(5, 1), Ok(1));
 }
 
-/// 19 exactly if the families differ, and before 8.
+/// 19 exactly if the families differ, and before 8. The original has no family to ask for.
 fn families(table: &mut Table) {
-    let [filter, narrow] = [8, 7].map(|rbits| Filter::new(shape(6, rbits), 0, vec![5]));
+    let [filter, wide, narrow] = [8, 9, 7].map(|rbits| Filter::new(shape(6, rbits), 0, vec![5]));
     let strange = filter.clone().of_family(1);
     let both = strange.merge(&strange, true).map(|merged| (merged.len(), merged.family));
     table.holds("one family", both, Ok((2, 1)));
     table.holds("two families", filter.merge(&strange, true), Err(19));
+    table.holds("two, wider", strange.merge(&wide, true), Err(19));
     table.holds("two, narrower", strange.merge(&narrow, true), Err(19));
     table.holds("one, narrower", filter.merge(&narrow, true), Err(8));
 }

@@ -20,7 +20,7 @@ pub fn drive(effort: Effort) {
         for rbits in 0..=255 {
             let expected = Shape::new(qbits, rbits).map(Shape::buffer_len);
             let widths = Widths { qbits, rbits, max_qbits: 0 };
-            same("buffer length", widths.into(), planning::buffer_len(qbits, rbits), expected);
+            same("buffer length", widths.family(0), planning::buffer_len(qbits, rbits), expected);
             calls += 1;
         }
     }

@@ -31,9 +31,11 @@ pub fn drive(effort: Effort) {
     println!("{NAME}: {runs} runs agree");
 }
 
-/// Too short ones, wrong marks, and filters that may be wrong.
+/// Too short ones, wrong marks, old files, and filters that may be wrong.
 fn inputs(rng: &mut Rng, rounds: u64) -> Vec<Vec<u8>> {
     let mut all: Vec<Vec<u8>> = (0..=22).map(|len| rng.bytes(len)).collect();
+    let marked = |input: &Vec<u8>| [&[0x51, 0x46], &input[..]].concat();
+    all.extend(all.clone().iter().map(marked));
     for round in 0..rounds {
         let (qbits, rbits) =
             rng.pick(&[(6, 1), (6, 8), (6, 58), (7, 8), (8, 3), (9, 8), (9, 55), (10, 5)]);
@@ -48,6 +50,10 @@ fn inputs(rng: &mut Rng, rounds: u64) -> Vec<Vec<u8>> {
         }
         if round % 16 == 1 {
             input.truncate(rng.below(22) as usize);
+        }
+        if round % 16 == 2 {
+            // As before there was a family.
+            input.drain(13..21);
         }
         all.push(input);
     }

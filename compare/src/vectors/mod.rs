@@ -1,6 +1,6 @@
 //! The list of calls that `crates/vectors` replays, and what the original answers to each (the model
-//! to an insert with max_count 0 and a merge of two families): the two files of that crate, made here and compared with those
-//! that stand there.
+//! to an insert with max_count 0 and a merge of two families): the two files of that crate, made
+//! here and compared with those that stand there.
 
 mod lent;
 mod listing;

@@ -109,22 +109,26 @@ fn refused_merges(replay: &mut Replay, small: Shape) {
     each(replay, [Line('j', 0, 1, 0), Line('b', 80, 0, 0), Line('j', 0, 1, 0), Line('k', 0, 0, 0)]);
 }
 
-/// Two families: 19 before 8, 7 and 12, and after the other's 6. Within one, whichever it is, none.
+/// Two families: 19, where nothing else is due and where 8, 7 or 12 is, but after the other's 6.
+/// Within one, whichever it is, none; and the result goes on in it.
 fn families(replay: &mut Replay, small: Shape) {
     for rbits in [8, 9, 7] {
         other(replay, Shape { qbits: 6, rbits }, 0x105, 0x33, 30);
-        for family in [FAMILY ^ 1, FAMILY ^ 1 << 63, 0] {
+        for (family, count) in [(FAMILY ^ 1, 10), (FAMILY ^ 1 << 63, 61), (0, 61)] {
             fresh_of(replay, small, 0, family);
-            replay.call(Line('a', 0x105, 0x66, 61));
-            each(replay, [Line('j', 89, 1, 0), Line('j', 0, 0, 0)]);
+            replay.call(Line('a', 0x105, 0x66, count));
+            each(replay, [Line('j', 89, 1, 0), Line('j', 89, 0, 0), Line('j', 0, 0, 0)]);
         }
     }
     each(replay, [Line('o', 0, 0, 0), Line('b', 80, 1, 0), Line('o', 0, 0, 0)]);
     each(replay, [Line('j', 89, 1, 0), Line('o', 0, 0, 0), Line('j', 81, 1, 0)]);
     for family in [0, MAX] {
+        fresh_of(replay, small, 0, family);
+        each(replay, [Line('a', 0x0201, 0x77, 20), Line('o', 0, 0, 0)]);
+        fresh(replay, small, 7);
+        each(replay, [Line('a', 0x0301, 0x66, 20), Line('j', 89, 1, 0)]);
         fresh_of(replay, small, 7, family);
-        each(replay, [Line('a', 0x0201, SPREADING, 40), Line('o', 0, 0, 0)]);
-        fresh_of(replay, small, 7, family);
-        each(replay, [Line('a', 0x0301, SPREADING, 40), Line('j', 154, 1, 0), Line('m', 0, 0, 0)]);
+        each(replay, [Line('a', 0x0301, 0x66, 50), Line('j', 154, 1, 0), Line('d', 0, 0, 0)]);
+        each(replay, [Line('m', 0x0301, 0, 0), Line('i', 0x0301, MAX, 0), Line('k', 0, 0, 0)]);
     }
 }

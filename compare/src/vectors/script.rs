@@ -46,7 +46,7 @@ pub fn fresh(replay: &mut Replay, shape: Shape, max_qbits: u8) {
     fresh_of(replay, shape, max_qbits, FAMILY);
 }
 
-/// An empty filter of another family.
+/// An empty filter of this family.
 pub fn fresh_of(replay: &mut Replay, shape: Shape, max_qbits: u8, family: u64) {
     let widths = widths(shape.qbits, shape.rbits, max_qbits);
     replay.call(Line('f', shape.buffer_len(), widths, family));

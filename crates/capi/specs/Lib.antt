@@ -1,4 +1,5 @@
 -- The answers as plain structs, and what the exports promise.
+pub mod Family
 pub mod Growing
 pub mod Listing
 pub mod Merging

@@ -26,6 +26,7 @@ use Rattle.growth.specs.Merged.{merge-pinned}
 use Rattle.capi.specs.Shown.{shown-one, shown-written}
 use Rattle.capi.specs.Planning as planning
 use Rattle.capi.specs.Reading as reading
+use Rattle.capi.specs.Reading.{OfAny}
 use Rattle.capi.specs.Listing as listing
 use Rattle.capi.specs.Writing as writing
 use Rattle.capi.specs.Growing as growing
@@ -35,6 +36,7 @@ use Rattle.capi.specs.declared.planning.Specs.{Specs}
 use Rattle.capi.specs.declared.planning.Plan.{Plan}
 use Rattle.capi.specs.declared.planning.Changed.{Changed}
 use Rattle.capi.specs.declared.reading.Looked.{Looked}
+use Rattle.capi.specs.declared.reading.Sizes.{Sizes}
 use Rattle.capi.specs.declared.listing.First.{First}
 use Rattle.capi.specs.declared.listing.Next.{Next}
 use Rattle.capi.specs.declared.growing.SpareAnswer.{SpareAnswer}
@@ -58,30 +60,36 @@ strumblay-buffer-len-pinned q r = shown-one (ShapedAs q r) planning.lengthOf (ne
 pub strumblay-fresh-pinned : (s : List ℕ) (q r mx family : ℕ) (a b : Changed) (t u : List ℕ) → planning.FreshOutcome s q r mx family a t → planning.FreshOutcome s q r mx family b u → (a ≡ b) × (t ≡ u)
 strumblay-fresh-pinned s q r mx family a b t u = shown-written (MadeAs s q r mx family) (planning.freshOf q r mx family) t u (λ x y. fresh-pinned s q r mx family x y t u) a b
 
--- ---- check, lookup and count
-module _ (n : Numbers) (s : List ℕ) where
-  pub strumblay-check-pinned : (a b : ℕ) → reading.CheckOutcome n s a → reading.CheckOutcome n s b → a ≡ b
-  strumblay-check-pinned = shown-one (Judged n s) reading.verdictOf (check-pinned n s)
+-- ---- check, lookup and count, of a record of these sizes
+module _ (n : Sizes) (s : List ℕ) where
+  abbrev record₀ : Numbers
+  record₀ = reading.recordOf n 0
 
-  pub strumblay-contains-pinned : (hash : ℕ) (a b : Looked) → reading.ContainsOutcome n s hash a → reading.ContainsOutcome n s hash b → a ≡ b
-  strumblay-contains-pinned hash = shown-one (Contains n s hash) reading.lookedOf (contains-fingerprint-pinned n s hash)
+  pub strumblay-check-pinned : (a b : ℕ) → OfAny n (λ m. reading.CheckOutcome m s a) → OfAny n (λ m. reading.CheckOutcome m s b) → a ≡ b
+  strumblay-check-pinned a b x y = shown-one (Judged record₀ s) reading.verdictOf (check-pinned record₀ s) a b (x 0) (y 0)
 
-  pub strumblay-contains-quick-pinned : (hash : ℕ) → Settled n s → (a b : Looked) → reading.ContainsQuickOutcome n s hash a → reading.ContainsQuickOutcome n s hash b → a ≡ b
-  strumblay-contains-quick-pinned hash d = shown-one (ContainsQuick n s hash) reading.lookedOf (contains-fingerprint-quick-pinned n s hash d)
+  module _ (hash : ℕ) (a b : Looked) where
+    pub strumblay-contains-pinned : OfAny n (λ m. reading.ContainsOutcome m s hash a) → OfAny n (λ m. reading.ContainsOutcome m s hash b) → a ≡ b
+    strumblay-contains-pinned x y = shown-one (Contains record₀ s hash) reading.lookedOf (contains-fingerprint-pinned record₀ s hash) a b (x 0) (y 0)
 
-  pub strumblay-count-pinned : (hash : ℕ) (a b : Outcome) → reading.CountOutcome n s hash a → reading.CountOutcome n s hash b → a ≡ b
-  strumblay-count-pinned hash = shown-one (Count n s hash) reading.countedOf (count-fingerprint-pinned n s hash)
+    pub strumblay-contains-quick-pinned : Settled record₀ s → OfAny n (λ m. reading.ContainsQuickOutcome m s hash a) → OfAny n (λ m. reading.ContainsQuickOutcome m s hash b) → a ≡ b
+    strumblay-contains-quick-pinned d x y = shown-one (ContainsQuick record₀ s hash) reading.lookedOf (contains-fingerprint-quick-pinned record₀ s hash d) a b (x 0) (y 0)
 
-  pub strumblay-count-quick-pinned : (hash : ℕ) → Settled n s → (a b : Outcome) → reading.CountQuickOutcome n s hash a → reading.CountQuickOutcome n s hash b → a ≡ b
-  strumblay-count-quick-pinned hash d = shown-one (CountQuick n s hash) reading.countedOf (count-fingerprint-quick-pinned n s hash d)
+  module _ (hash : ℕ) (a b : Outcome) where
+    pub strumblay-count-pinned : OfAny n (λ m. reading.CountOutcome m s hash a) → OfAny n (λ m. reading.CountOutcome m s hash b) → a ≡ b
+    strumblay-count-pinned x y = shown-one (Count record₀ s hash) reading.countedOf (count-fingerprint-pinned record₀ s hash) a b (x 0) (y 0)
+
+    pub strumblay-count-quick-pinned : Settled record₀ s → OfAny n (λ m. reading.CountQuickOutcome m s hash a) → OfAny n (λ m. reading.CountQuickOutcome m s hash b) → a ≡ b
+    strumblay-count-quick-pinned d x y = shown-one (CountQuick record₀ s hash) reading.countedOf (count-fingerprint-quick-pinned record₀ s hash d) a b (x 0) (y 0)
 
   -- ---- listing
-  pub strumblay-list-begin-pinned : (a b : First) → listing.BeginOutcome n s a → listing.BeginOutcome n s b → a ≡ b
-  strumblay-list-begin-pinned = shown-one (Begins n s) listing.begunOf (begin-pinned n s)
+  pub strumblay-list-begin-pinned : (a b : First) → OfAny n (λ m. listing.BeginOutcome m s a) → OfAny n (λ m. listing.BeginOutcome m s b) → a ≡ b
+  strumblay-list-begin-pinned a b x y = shown-one (Begins record₀ s) listing.begunOf (begin-pinned record₀ s) a b (x 0) (y 0)
 
-  pub strumblay-list-step-pinned : (p : Place) → Fixed n s p → (a b : Next) → listing.StepOutcome n s p a → listing.StepOutcome n s p b → a ≡ b
-  strumblay-list-step-pinned p d = shown-one (Listed n s p) (λ answer. listing.nextOf (answer .place) (answer .step)) (step-from-pinned n s p d)
+  pub strumblay-list-step-pinned : (p : Place) → Fixed record₀ s p → (a b : Next) → OfAny n (λ m. listing.StepOutcome m s p a) → OfAny n (λ m. listing.StepOutcome m s p b) → a ≡ b
+  strumblay-list-step-pinned p d a b x y = shown-one (Listed record₀ s p) (λ answer. listing.nextOf (answer .place) (answer .step)) (step-from-pinned record₀ s p d) a b (x 0) (y 0)
 
+module _ (n : Numbers) (s : List ℕ) where
   -- ---- insert and remove
   module _ (hash : ℕ) (a b : Changed) (t u : List ℕ) where
     pub strumblay-insert-pinned : (most : ℕ) → writing.InsertOutcome n hash most s a t → writing.InsertOutcome n hash most s b u → (a ≡ b) × (t ≡ u)

@@ -1,8 +1,9 @@
--- Answers of the check, lookup and count as plain structs.
+-- What a reading is handed, and answers of the check, lookup and count as plain structs.
 use Prim.Native.Nat.{ℕ}
 use mathlib.Core.List.{List}
 use Rattle.theory.specs.Answer.{number, values, notLooked}
 use Rattle.layout.specs.declared.numbers.Numbers.{Numbers}
+use Rattle.layout.specs.Records.{emptyRecord, withLen}
 use Rattle.layout.specs.declared.check.Verdict.{Verdict}
 use Rattle.layout.specs.declared.check.Verdict.the-variants as verdict
 use Rattle.filter.specs.declared.contains.Lookup.{Lookup}
@@ -15,9 +16,9 @@ use Rattle.capi.specs.declared.planning.Outcome.{Outcome}
 use Rattle.capi.specs.declared.reading.Looked.{Looked}
 use Rattle.capi.specs.declared.reading.Sizes.{Sizes}
 
--- the record of these sizes and a family; and a promise of all such records: no reading tells one family from another
+-- the record of these sizes and a family; and what is promised of a record of these sizes whichever family it is of
 abbrev pub recordOf : Sizes → ℕ → Numbers
-recordOf n family = record { len = n .len; qbits = n .qbits; rbits = n .rbits; «max_qbits» = n .«max_qbits»; family = family }
+recordOf n family = withLen (emptyRecord (n .qbits) (n .rbits) (n .«max_qbits») family) (n .len)
 
 abbrev pub OfAny : Sizes → (Numbers → Type 0) → Type 0
 OfAny n P = (family : ℕ) → P (recordOf n family)

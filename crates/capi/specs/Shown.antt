@@ -6,7 +6,7 @@ pub record Shown {A B : Type 0} (Right : A → Type 0) (plain : A → B) (b : B)
   pub right : Right answer
   pub is : b ≡ plain answer
 
--- of a call inside on n that is m
+-- of a call inside on n, where n is m
 pub shown-of : {A B N : Type 0} (Right : N → A → Type 0) (plain : A → B) (n m : N) → n ≡ m → (a : A) → Right n a → (b : B) → b ≡ plain a → Shown (Right m) plain b
 shown-of Right plain n m e a right b is = record { answer = a; right = subst (λ z. Right z a) e right; is = is }
 

@@ -142,7 +142,7 @@ pub extern "C" fn strumblay_buffer_len(qbits: u8, rbits: u8) -> Outcome
     }
 }
 
-// An empty filter in a lent buffer.
+// An empty filter of these widths and this family in a lent buffer.
 #[no_mangle]
 pub extern "C" fn strumblay_fresh(
     qbits: u8,

@@ -8,7 +8,7 @@ use filter::contains::Lookup;
 use layout::check::Verdict;
 use layout::numbers::Numbers;
 
-// A record without its family, which no reading asks for: small enough that C passes it in registers.
+// A record without its family, which no reading asks for: small enough that C passes it in registers. In C it is strumblay_sizes, and Numbers are strumblay_numbers.
 #[repr(C)]
 pub struct Sizes {
     pub len: u64,

@@ -1,5 +1,5 @@
--- Every record that a call gives is of the family that it was given, whatever it was lent; a merge gives one only of two filters of one family. A refusal gives no record, nor does a
--- remove that finds nothing: there is nothing to say of them. Assumes nothing.
+-- Every record that a public call gives is of the family that it was given, whatever it was lent; that of a merge is in Merged. A refusal gives no record, nor does a remove that finds
+-- nothing: there is nothing to say of them. Assumes nothing.
 use Prim.Native.Nat.{ℕ, _<_}
 use mathlib.Core.Path.{_≡_, refl, sym, ap, subst, _∙_}
 use mathlib.Core.Logic.{_⊎_, inl, inr}
@@ -12,7 +12,7 @@ use Rattle.theory.specs.Changing.{Rule}
 use Rattle.theory.specs.refusals.Demands.{not-refused}
 use Rattle.layout.specs.declared.numbers.Numbers.{Numbers}
 use Rattle.layout.specs.declared.fresh.Made.the-variants.{Fresh}
-use Rattle.layout.specs.Records.{Keeps, Changed, changed}
+use Rattle.layout.specs.Records.{OfFamily, Keeps, Changed, changed}
 use Rattle.layout.specs.Fresh.{MadeAs}
 use Rattle.layout.specs.Outcomes.{leaves-given}
 use Rattle.writing.specs.declared.writers.Inserted.the-variants.{Counted}
@@ -23,13 +23,7 @@ use Rattle.growth.specs.declared.spare.Placed.{Placed}
 use Rattle.growth.specs.declared.spare.Placed.the-variants.{InOld, InSpare, Refused}
 use Rattle.growth.specs.Says.{PlacedIn, placedSays, placed-tells}
 use Rattle.growth.specs.Rebuilding.{grownTo, Grows, growDue}
-use Rattle.growth.specs.Merging.{Merges}
 use Rattle.growth.specs.Spare.{Places, PlacedWithin, InsertSpare, InsertSpareQuick}
-use Rattle.growth.specs.Merged.{merged-family}
-
--- n′ is of the family of n
-abbrev pub OfFamily : Numbers → Numbers → Type 0
-OfFamily n n′ = n′ .family ≡ n .family
 
 keeps-family : (n n′ : Numbers) → Keeps n n′ → OfFamily n n′
 keeps-family n n′ k = ap (λ (x : Numbers). x .family) (k .rest)
@@ -57,16 +51,11 @@ module _ (n : Numbers) (hash : ℕ) (s : List ℕ) (n′ : Numbers) (t : List �
   pub remove-quick-family : RemoveQuick n hash s (Gone n′) t → OfFamily n n′
   remove-quick-family p = keeps-family n n′ (p .other .1)
 
--- ---- growth and merge
+-- ---- growth
 pub grown-family : (n : Numbers) (s d : List ℕ) (g : Numbers) (t : List ℕ) → Grows n s d (Filter g) t → OfFamily n g
 grown-family n s d g t p =
     let y = not-refused _ _ _ _ s _ _ p (λ k z. let x : _≡_ {A = ℕ} 0 1 = cc (z .0) in omega arith) in
     ap (λ (x : Numbers). x .family) (leaves-given _ _ (grownTo n (length (y .0 .held))) (y .0 .held) d g t (y .1) .1)
-
-pub merge-family : (n : Numbers) (s : List ℕ) (m : Numbers) (o : List ℕ) (keep : ℕ) (d : List ℕ) (x : Numbers) (t : List ℕ) → Merges n s m o keep d (Filter x) t → OfFamily n x × OfFamily m x
-merge-family n s m o keep d x t p =
-    let e = merged-family n s m o keep d x t p in
-    (e .1, e .1 ∙ e .0)
 
 -- ---- both inserts with a spare: the record that the answer gives, wherever the filter is then
 abbrev pub AnswerFamily : Numbers → Placed → Type 0

@@ -1,20 +1,23 @@
--- What follows of the promise of merge: it leaves no choice, its result is sound, and what that holds, fingerprint by fingerprint. Assumes nothing.
+-- What follows of the promise of merge: it leaves no choice, its result is sound and of the family of both, and what that holds, fingerprint by fingerprint; and 19 is given of two
+-- families alone. Assumes nothing.
 use Prim.Native.Nat.{ℕ, zero, suc, _+_, _-_, _*_, _^_, _≤_, _<_, min, max}
 use mathlib.Core.Path.{_≡_, refl, sym, ap, subst, _∙_}
+use mathlib.Core.Logic.{_⊎_, inl, inr, _≢_}
 use mathlib.Core.List.{List, map}
 use native.Mathlib.Omega.{arith}
-use native.Mathlib.Decide.{decLt}
+use native.Mathlib.Decide.{decLt, ℕ-discrete}
+use native.Mathlib.Nat.{eq-zero-or-pos}
 use lib.ListN.{length}
 use lib.Pow.{pow-add}
 use Rattle.theory.specs.Answer.{gives, refuses, number}
-use Rattle.theory.specs.Shape.{Widths, slots, capacity, fingerprint}
+use Rattle.theory.specs.Shape.{Widths, slots, capacity, bytes, fingerprint}
 use Rattle.theory.specs.Holding.{Holding, Under, copies}
 use Rattle.theory.specs.Image.{image}
-use Rattle.theory.specs.Refusal.{maxDue}
-use Rattle.theory.specs.Joining.{limit, joined, taken, wanted, joinedQbits, joinedDue}
+use Rattle.theory.specs.Refusal.{maxDue, destinationDue}
+use Rattle.theory.specs.Joining.{limit, joined, taken, wanted, joinedQbits, joinedDue, takenDue}
 use Rattle.theory.specs.plan.Needed.{width-low, width-found}
-use Rattle.theory.specs.refusals.Demands.{checked-one, not-refused}
-use Rattle.theory.specs.refusals.ByNumber.{clear, clear-none, else-first}
+use Rattle.theory.specs.refusals.Demands.{checked-one, not-early, not-refused}
+use Rattle.theory.specs.refusals.ByNumber.{clear, clear-none, else-first, else-most, one-most}
 use Rattle.layout.specs.Judging.{clear-of, held-within}
 use Rattle.theory.specs.images.ImageBytes.{image-length}
 use Rattle.theory.specs.list.StillHolding.{joined-holding, taken-holding}
@@ -24,14 +27,14 @@ use Rattle.layout.specs.declared.numbers.Numbers.{Numbers}
 use Rattle.layout.specs.declared.shape.Shape.{Shape}
 use Rattle.layout.specs.Outcomes.{alike, apart, leaves-one, leaves-given, family-one, family-given}
 use Rattle.growth.specs.declared.rebuild.Rebuilt.{Rebuilt}
-use Rattle.growth.specs.declared.rebuild.Rebuilt.the-variants.{Filter}
+use Rattle.growth.specs.declared.rebuild.Rebuilt.the-variants.{Filter, Refused}
 use Rattle.growth.specs.Says.{rebuiltSays, rebuilt-tells}
 use Rattle.growth.specs.Rebuilding.{Lands, held-under}
 use Rattle.theory.specs.plan.Limits.{limit-widths, joined-within}
 use Rattle.theory.specs.list.MergeLength.{none-few, own-wanted}
 use Rattle.growth.specs.MergeLists.{shows-self, shows-other}
-use Rattle.layout.specs.Records.{shapeOf, widthOf, withShape, withLen, lowestDue, SoundOf, HoldsOf, CheckedOn}
-use Rattle.growth.specs.Merging.{qbitsFor, shapeFor, MergesTo, Untaken, MergesOne, Merges}
+use Rattle.layout.specs.Records.{shapeOf, widthOf, withShape, withLen, OfFamily, lowestDue, SoundOf, HoldsOf, CheckedOn}
+use Rattle.growth.specs.Merging.{qbitsFor, shapeFor, MergesTo, Untaken, MergesFamily, Merges}
 
 -- ---- no choice
 abbrev Outcome : Type 0
@@ -48,8 +51,8 @@ merges-one n m keep la lb d x y p g = go (decLt (widthOf m) (widthOf n)) (decLt 
     go (no h) (yes z) = leaves-one rebuiltSays rebuilt-tells _ _ _ _ d x y (p .wider z) (g .wider z)
     go (no h) (no z) = leaves-one rebuiltSays rebuilt-tells _ _ _ _ d x y (p .equal (omega arith)) (g .equal (omega arith))
 
-pair-one : (n m : Numbers) (keep : ℕ) (la lb d : List ℕ) (x y : Outcome) → MergesOne n m keep la lb d (x .0) (x .1) → MergesOne n m keep la lb d (y .0) (y .1) → x ≡ y
-pair-one n m keep la lb d x y p g =
+merges-family-one : (n m : Numbers) (keep : ℕ) (la lb d : List ℕ) (x y : Outcome) → MergesFamily n m keep la lb d (x .0) (x .1) → MergesFamily n m keep la lb d (y .0) (y .1) → x ≡ y
+merges-family-one n m keep la lb d x y p g =
     family-one n m (No d) (λ (z : Outcome). MergesTo n m keep la lb d (z .0) (z .1)) x p (alike rebuiltSays rebuilt-tells) (merges-one n m keep la lb d) y g
 
 -- any two outcomes that keep the promise coincide, for all inputs
@@ -57,8 +60,8 @@ pub merge-pinned : (n : Numbers) (s : List ℕ) (m : Numbers) (o : List ℕ) (ke
     → (a ≡ b) × (t ≡ u)
 merge-pinned n s m o keep d a b t u p g =
     apart (a, t) (b, u)
-    (checked-one (No d) (λ la (x : Outcome). CheckedOn m o (λ k. No d k x) (λ lb. MergesOne n m keep la lb d (x .0) (x .1))) _ _ _ _ s (λ k. alike rebuiltSays rebuilt-tells)
-    (λ la _. checked-one (No d) (λ lb (x : Outcome). MergesOne n m keep la lb d (x .0) (x .1)) _ _ _ _ o (λ k. alike rebuiltSays rebuilt-tells) (λ lb _. pair-one n m keep la lb d)) (a, t) (b, u) p g)
+    (checked-one (No d) (λ la (x : Outcome). CheckedOn m o (λ k. No d k x) (λ lb. MergesFamily n m keep la lb d (x .0) (x .1))) _ _ _ _ s (λ k. alike rebuiltSays rebuilt-tells)
+    (λ la _. checked-one (No d) (λ lb (x : Outcome). MergesFamily n m keep la lb d (x .0) (x .1)) _ _ _ _ o (λ k. alike rebuiltSays rebuilt-tells) (λ lb _. merges-family-one n m keep la lb d)) (a, t) (b, u) p g)
 
 -- ---- a rebuild that is not refused: if its list is a holding of allowed widths, the filter holds it
 module _ (k : ℕ) (n : Numbers) (h : Shape) (l d : List ℕ) (x : Numbers) (t : List ℕ) (p : Lands k (withShape n h (length l)) l d (gives x) t) where
@@ -143,17 +146,51 @@ module _ (n : Numbers) (s : List ℕ) (m : Numbers) (o : List ℕ) (keep : ℕ) 
       go (no h) (yes z) = from _ (wider-holds la lb (both .0 .holds) (both .1 .holds) z)
       go (no h) (no z) = from _ (equal-holds la lb (both .0 .holds) (both .1 .holds) (omega arith))
 
-  -- of that family
-  pub merged-family : (n .family ≡ m .family) × (x .family ≡ n .family)
-  merged-family = (both .2, go (decLt (widthOf m) (widthOf n)) (decLt (widthOf n) (widthOf m)))
+  -- of the family of both
+  pub merged-family : OfFamily n x × OfFamily m x
+  merged-family =
+      let e = go (decLt (widthOf m) (widthOf n)) (decLt (widthOf n) (widthOf m)) in
+      (e, e ∙ both .2)
     where
-      kept : (k : ℕ) (h : Shape) (l : List ℕ) → Lands k (withShape n h (length l)) l d (gives x) t → x .family ≡ n .family
+      kept : (k : ℕ) (h : Shape) (l : List ℕ) → Lands k (withShape n h (length l)) l d (gives x) t → OfFamily n x
       kept k h l y = ap (λ (z : Numbers). z .family) (leaves-given k _ (withShape n h (length l)) l d x t y .1)
 
-      go : Dec (widthOf m < widthOf n) → Dec (widthOf n < widthOf m) → x .family ≡ n .family
+      go : Dec (widthOf m < widthOf n) → Dec (widthOf n < widthOf m) → OfFamily n x
       go (yes h) z = absurd (omega (arith, ap number (both .3 .narrower h .0)))
       go (no h) (yes z) = kept _ (shapeOf n) _ (both .3 .wider z)
       go (no h) (no z) = kept _ (shapeFor n _) _ (both .3 .equal (omega arith))
+
+-- ---- 19 is given of two sound filters of two families alone
+-- behind the families only 8, 7 and 12 are asked
+destination-most : (q r size : ℕ) → destinationDue q r size ≤ 12
+unfolding destinationDue
+destination-most q r size = one-most 12 (ℕ-discrete size (bytes q r)) 0 12 (omega arith) (omega arith)
+
+joined-most : (q mx c : ℕ) → joinedDue q mx c ≤ 12
+unfolding joinedDue
+joined-most q mx c = one-most 12 (decLt (limit q mx) (joinedQbits q mx c)) 7 0 (omega arith) (omega arith)
+
+taken-most : (q : ℕ) (a l : List ℕ) → takenDue q a l ≤ 12
+unfolding takenDue
+taken-most q a l = one-most 12 (decLt (length a) (length l)) _ 0 (one-most 12 (decLt (capacity q) (length l)) 7 0 (omega arith) (omega arith)) (omega arith)
+
+pub nineteen : (n : Numbers) (s : List ℕ) (m : Numbers) (o : List ℕ) (keep : ℕ) (d t : List ℕ) → Merges n s m o keep d (Refused 19) t → SoundOf n s × SoundOf m o × (n .family ≢ m .family)
+nineteen n s m o keep d t p =
+    let y = not-early _ _ _ _ s _ _ p (λ k h z. omega (arith, h, ap number (z .0))) in
+    let z = not-early _ _ _ _ o _ _ (y .1) (λ k h z. omega (arith, h, ap number (z .0))) in
+    (y .0, z .0, λ e. cases (y .0 .held) (z .0 .held) (z .1 .same e) (decLt (widthOf m) (widthOf n)) (decLt (widthOf n) (widthOf m)))
+  where
+    lands : (k : ℕ) (x : Numbers) (l : List ℕ) → k ≤ 12 → Lands k x l d (refuses 19) t → ⊥
+    lands k x l h q = go (eq-zero-or-pos k)
+      where
+        go : (k ≡ 0) ⊎ (0 < k) → ⊥
+        go (inl z) = omega (arith, ap number (q .done z .0))
+        go (inr z) = omega (arith, h, ap number (q .refused z .0))
+
+    cases : (la lb : List ℕ) → MergesTo n m keep la lb d (Refused 19) t → Dec (widthOf m < widthOf n) → Dec (widthOf n < widthOf m) → ⊥
+    cases la lb q (yes h) z = omega (arith, ap number (q .narrower h .0))
+    cases la lb q (no h) (yes z) = lands _ _ _ (else-most 12 (takenDue (n .qbits) la (taken keep (n .qbits) (n .rbits) la lb)) _ (taken-most _ la _) (destination-most _ _ (length d))) (q .wider z)
+    cases la lb q (no h) (no z) = lands _ _ _ (else-most 12 (joinedDue (n .qbits) (n .«max_qbits») (wanted keep la lb)) _ (joined-most _ _ _) (destination-most _ _ (length d))) (q .equal (omega arith))
 
 -- ---- what the result holds
 -- a list of which P says how often it has each fingerprint

@@ -48,12 +48,12 @@ abbrev pub Untaken : List ℕ → Rebuilt → List ℕ → ℕ → Type 0
 Untaken d a t k = (rebuiltSays a ≡ refuses k) × (t ≡ d)
 
 -- two families: 19; or one, and the cases
-abbrev pub MergesOne : Numbers → Numbers → ℕ → List ℕ → List ℕ → List ℕ → Rebuilt → List ℕ → Type 0
-MergesOne n m keep la lb d a t = OneFamily n m (Untaken d a t) (MergesTo n m keep la lb d a t)
+abbrev pub MergesFamily : Numbers → Numbers → ℕ → List ℕ → List ℕ → List ℕ → Rebuilt → List ℕ → Type 0
+MergesFamily n m keep la lb d a t = OneFamily n m (Untaken d a t) (MergesTo n m keep la lb d a t)
 
 -- self's numbers 1 to 6, other's 1 to 6, then the families and the cases
 abbrev pub Merges : Numbers → List ℕ → Numbers → List ℕ → ℕ → List ℕ → Rebuilt → List ℕ → Type 0
-Merges n s m o keep d a t = CheckedBoth n s m o (Untaken d a t) (λ la lb. MergesOne n m keep la lb d a t)
+Merges n s m o keep d a t = CheckedBoth n s m o (Untaken d a t) (λ la lb. MergesFamily n m keep la lb d a t)
 
 -- ---- how the code comes to it
 abbrev pub mostOf : ℕ → ℕ
@@ -80,8 +80,9 @@ MergesWider n s m o keep d a t = OfBoth n s m o (λ la lb. WiderTo n keep la lb 
 abbrev pub MergesSound : Numbers → List ℕ → Numbers → List ℕ → ℕ → List ℕ → Rebuilt → List ℕ → Type 0
 MergesSound n s m o keep d a t = OfBoth n s m o (λ la lb. MergesTo n m keep la lb d a t)
 
+-- and of any two that passed 1 to 5
 abbrev pub MergesPair : Numbers → List ℕ → Numbers → List ℕ → ℕ → List ℕ → Rebuilt → List ℕ → Type 0
-MergesPair n s m o keep d a t = OfBoth n s m o (λ la lb. MergesOne n m keep la lb d a t)
+MergesPair n s m o keep d a t = OfBoth n s m o (λ la lb. MergesFamily n m keep la lb d a t)
 
 -- both lists taken into an empty destination, one after the other
 pub record Joins (n : Numbers) (s : List ℕ) (m : Numbers) (o : List ℕ) (keep : ℕ) (h : Shape) (d : List ℕ) (a : ℕ) (t : List ℕ) : Type 0 where

@@ -47,7 +47,7 @@ grownShape n = record { qbits = n .qbits + 1; rbits = n .rbits - 1 }
 abbrev pub grownTo : Numbers → ℕ → Numbers
 grownTo n len = withShape n (grownShape n) len
 
--- growth, 7 and then 12: the same holding at these widths, len and max_qbits kept
+-- growth, 7 and then 12: the same holding at these widths, len, max_qbits and family kept
 abbrev pub growDue : Numbers → ℕ → ℕ
 growDue n size = orElse (growthDue (n .qbits) (n .«max_qbits»)) (destinationDue (n .qbits + 1) (n .rbits - 1) size)
 

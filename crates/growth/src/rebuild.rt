@@ -18,7 +18,7 @@ pub enum Rebuilt {
     Refused(u8),
 }
 
-// The destination is made empty, and no use is made of the record; or number 12, and it stays as it was.
+// The destination is made empty; or number 12, and it stays as it was. The fresh filter's record, of family 0, is not used.
 pub fn empty_out(dest: &mut [u8], shape: Shape, max_qbits: u8) -> u8
     requires { ⌜ (Widths (shape .qbits) (shape .rbits)) × (maxDue (shape .qbits) (shape .rbits) «max_qbits» ≡ 0) ⌝ }
     ensures { λ r. ⌜ Empties (shape .qbits) (shape .rbits) (now (dest .entry)) r (now (dest .exit)) ⌝ }

@@ -12,7 +12,7 @@ use Rattle.layout.specs.declared.numbers.Numbers.{Numbers}
 use Rattle.layout.specs.declared.fresh.Made.{Made}
 use Rattle.layout.specs.declared.fresh.Made.the-variants.{Fresh, Refused}
 
--- the numbers asked for with len 0, and the image of the empty list, if none of 1, 4 and 12 is due; else the first that is, and the buffer as it was
+-- the widths and the family asked for with len 0, and the image of the empty list, if none of 1, 4 and 12 is due; else the first that is, and the buffer as it was
 abbrev pub MadeAs : List ℕ → ℕ → ℕ → ℕ → ℕ → Made → List ℕ → Type 0
 MadeAs s q r mx family (Fresh n) t = (freshDue q r mx (length s) ≡ 0) × (n ≡ emptyRecord q r mx family) × (t ≡ image q r [])
 MadeAs s q r mx family (Refused k) t = (freshDue q r mx (length s) ≡ k) × (0 < k) × (t ≡ s)

@@ -41,7 +41,7 @@ leaves-given k v n l d a t p = go (eq-zero-or-pos k)
     go (inl z) = (z, ap (values a) (p .done z .0), p .done z .1)
     go (inr z) = absurd (omega (arith, ap number (p .refused z .0)))
 
--- a call on filters of one family: what is one in either case is one, and an answer that is no refusal was of one family
+-- a call on filters of one family: two outcomes that are one in either case are one, and one that is not refused 19 was of one family
 module _ {O : Type 0} (n m : Numbers) (refused : ℕ → O → Type 0) (right : O → Type 0) (a : O) (p : OneFamily n m (λ k. refused k a) (right a)) where
   pub family-one : ((a b : O) → refused 19 a → refused 19 b → a ≡ b) → ((a b : O) → right a → right b → a ≡ b) → (b : O) → OneFamily n m (λ k. refused k b) (right b) → a ≡ b
   family-one one same b q = go (ℕ-discrete (n .family) (m .family))

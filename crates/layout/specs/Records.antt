@@ -1,4 +1,4 @@
--- All that is said of a filter's record: its numbers, its shape, the record at other widths or with another len, what is due of it and what it holds,
+-- All that is said of a filter's record: its numbers, its shape, the record at other widths or with another len, its family, what is due of it and what it holds,
 -- and the forms of the calls on it.
 use Prim.Native.Nat.{ℕ, _+_, _≤_, _<_}
 use mathlib.Core.Path.{_≡_}
@@ -31,6 +31,10 @@ withShape n h len = record { len = len; qbits = h .qbits; rbits = h .rbits; «ma
 
 abbrev pub withLen : Numbers → ℕ → Numbers
 withLen n len = withShape n (shapeOf n) len
+
+-- n′ is of the family of n
+abbrev pub OfFamily : Numbers → Numbers → Type 0
+OfFamily n n′ = n′ .family ≡ n .family
 
 -- ---- what is due of it, and what it holds
 -- the lowest of numbers 1 to 5 that is due, or 0

@@ -6,7 +6,7 @@ ghost use Rattle.layout.specs.Records.{emptyRecord, shapeOf, withShape, 
 use crate::shape::Shape;
 use crate::shape::Shaped;
 
-// max_qbits is 0 for none; family tells the hash that the fingerprints come from.
+// max_qbits is 0 for none; the family says which hash made the fingerprints.
 #[repr(C)]
 pub struct Numbers {
     pub len: u64,

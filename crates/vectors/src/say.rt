@@ -38,7 +38,7 @@ pub fn refused(k: u8) {
     small(k);
 }
 
-// Widths.
+// The widths of a shape, and max_qbits.
 pub fn widths(shape: Shape, max_qbits: u8) {
     small(shape.qbits);
     small(shape.rbits);

@@ -12,7 +12,7 @@ use Rattle.theory.specs.Holding.{Holding}
 use Rattle.theory.specs.Image.{image}
 use Rattle.theory.specs.Refusal.{due}
 use Rattle.theory.specs.Sound.{Holds}
-use Rattle.theory.specs.Report.{lenOf, qbitsOf, rbitsOf, maxOf, bufferOf, markDue, maxQbits, headerDue, sound, reportOf}
+use Rattle.theory.specs.Report.{lenOf, qbitsOf, rbitsOf, maxOf, familyOf, bufferOf, markDue, maxQbits, headerDue, sound, reportOf}
 use Rattle.theory.specs.refusals.Demands.{a-filter}
 use Rattle.theory.specs.refusals.ByNumber.{widths-none}
 use Rattle.theory.specs.refusals.ProgramAsks.{mark-none, header-limit, limit-none}
@@ -38,6 +38,11 @@ module _ (len q r mx family : ℕ) (b : List ℕ) where
   max-back : maxOf (fileOf len q r mx family b) ≡ mx
   unfolding maxOf fileOf toBytes
   max-back = refl
+
+  -- nothing written depends on it, but it is there to be read
+  pub family-back : family < 2 ^ 64 → familyOf (fileOf len q r mx family b) ≡ family
+  unfolding familyOf fileOf toBytes
+  family-back h = le-toBytes 8 family h
 
   buffer-back : bufferOf (fileOf len q r mx family b) ≡ b
   unfolding bufferOf fileOf toBytes

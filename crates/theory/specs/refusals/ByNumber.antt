@@ -189,22 +189,22 @@ max-fits q r mx e n = go (decLe q mx) (decLe mx 59) (decLe mx (q + r - 1))
     go (yes a) (no b) c = absurd (omega (arith, max-bad q r mx n (λ z. b (z .1))))
     go (yes a) (yes b) (no c) = absurd (omega (arith, max-bad q r mx n (λ z. c (z .2))))
 
--- no number of these is above 5
-else-most : (a b : ℕ) → a ≤ 5 → b ≤ 5 → orElse a b ≤ 5
+-- no number of these is above 5; nor of two questions, where neither gives one above a bound
+pub else-most : (most a b : ℕ) → a ≤ most → b ≤ most → orElse a b ≤ most
 unfolding orElse
-else-most zero b x y = y
-else-most (suc a) b x y = x
+else-most most zero b x y = y
+else-most most (suc a) b x y = x
 
-one-most : {A : Type 0} (d : Dec A) (a b : ℕ) → a ≤ 5 → b ≤ 5 → choose d a b ≤ 5
-one-most d a b x y = choose-by (λ z. z ≤ 5) d (λ _. x) (λ _. y)
+pub one-most : {A : Type 0} (most : ℕ) (d : Dec A) (a b : ℕ) → a ≤ most → b ≤ most → choose d a b ≤ most
+one-most most d a b x y = choose-by (λ z. z ≤ most) d (λ _. x) (λ _. y)
 
 pub due-most : (q r len mx size : ℕ) → due q r len mx size ≤ 5
 unfolding due dueOf widthsDue sizeDue lenDue maxDue fullDue
 due-most q r len mx size =
-    else-most (widthsDue q r) _
-    (one-most (decLt q 6) 1 _ (omega arith) (one-most (decLt 59 q) 1 _ (omega arith) (one-most (decLt r 1) 1 _ (omega arith) (one-most (decLt 64 (q + r)) 1 0 (omega arith) (omega arith)))))
-    (else-most (sizeDue q r size) _ (one-most (ℕ-discrete size (bytes q r)) 0 2 (omega arith) (omega arith))
-    (else-most (lenDue q len) _ (one-most (decLt (slots q) len) 3 0 (omega arith) (omega arith))
-    (else-most (maxDue q r mx) _
-    (one-most (ℕ-discrete mx 0) 0 _ (omega arith) (one-most (decLt mx q) 4 _ (omega arith) (one-most (decLt 59 mx) 4 _ (omega arith) (one-most (decLt (q + r - 1) mx) 4 0 (omega arith) (omega arith)))))
-    (one-most (decLt (capacity q) len) _ 0 (one-most (decLe len (slots q)) 5 0 (omega arith) (omega arith)) (omega arith)))))
+    else-most 5 (widthsDue q r) _
+    (one-most 5 (decLt q 6) 1 _ (omega arith) (one-most 5 (decLt 59 q) 1 _ (omega arith) (one-most 5 (decLt r 1) 1 _ (omega arith) (one-most 5 (decLt 64 (q + r)) 1 0 (omega arith) (omega arith)))))
+    (else-most 5 (sizeDue q r size) _ (one-most 5 (ℕ-discrete size (bytes q r)) 0 2 (omega arith) (omega arith))
+    (else-most 5 (lenDue q len) _ (one-most 5 (decLt (slots q) len) 3 0 (omega arith) (omega arith))
+    (else-most 5 (maxDue q r mx) _
+    (one-most 5 (ℕ-discrete mx 0) 0 _ (omega arith) (one-most 5 (decLt mx q) 4 _ (omega arith) (one-most 5 (decLt 59 mx) 4 _ (omega arith) (one-most 5 (decLt (q + r - 1) mx) 4 0 (omega arith) (omega arith)))))
+    (one-most 5 (decLt (capacity q) len) _ 0 (one-most 5 (decLe len (slots q)) 5 0 (omega arith) (omega arith)) (omega arith)))))

@@ -15,7 +15,7 @@ use Rattle.theory.specs.Shape.{slots, capacity, bytes, Widths}
 use Rattle.theory.specs.Image.{image}
 use Rattle.theory.specs.images.ImageBytes.{image-tells, image-length}
 use Rattle.theory.specs.refusals.SoundDecided.{sound-dec}
-use Rattle.theory.specs.refusals.ByNumber.{none-due, clear, clear-none, max-absent}
+use Rattle.theory.specs.refusals.ByNumber.{none-due, clear, clear-none, max-absent, due-most}
 use Rattle.theory.specs.Refusal.{due}
 use Rattle.theory.specs.Sound.{Quick, Sound, Holds, Checked}
 
@@ -44,15 +44,19 @@ module _ {O : Type 0} (refused : ℕ → O → Type 0) (right : List ℕ → O �
   quick-checked left (inl h) a b p p′ = one _ a b (p .early h) (p′ .early h)
   quick-checked left (inr h) a b p p′ = same (h .held) (h .holds) a b (p .sound (h .none) (h .held) (h .holds)) (p′ .sound (h .none) (h .held) (h .holds))
 
--- ---- a checked call that is not refused: the filter is sound, and what is right for the list held was done
-pub not-refused : (q r len mx : ℕ) (s : List ℕ) (refused : ℕ → Type 0) (right : List ℕ → Type 0) → Checked q r len mx s refused right → ((k : ℕ) → refused k → ⊥)
+-- ---- a checked call that is not refused with one of 1 to 6, or not at all: the filter is sound, and what is right for the list held was done
+pub not-early : (q r len mx : ℕ) (s : List ℕ) (refused : ℕ → Type 0) (right : List ℕ → Type 0) → Checked q r len mx s refused right → ((k : ℕ) → k ≤ 6 → refused k → ⊥)
     → (h : Sound q r len mx s) × right (h .held)
-not-refused q r len mx s refused right p never = go (eq-zero-or-pos (due q r len mx (length s))) (sound-dec q r len mx s)
+not-early q r len mx s refused right p never = go (eq-zero-or-pos (due q r len mx (length s))) (sound-dec q r len mx s)
   where
     go : (due q r len mx (length s) ≡ 0) ⊎ (0 < due q r len mx (length s)) → Dec (Sound q r len mx s) → (h : Sound q r len mx s) × right (h .held)
-    go (inr d) y = absurd (never _ (p .early d))
-    go (inl e) (no y) = absurd (never _ (p .damaged e y))
+    go (inr d) y = absurd (never _ (omega (arith, due-most q r len mx (length s))) (p .early d))
+    go (inl e) (no y) = absurd (never _ (omega arith) (p .damaged e y))
     go (inl e) (yes y) = (y, p .sound e (y .held) (y .holds))
+
+pub not-refused : (q r len mx : ℕ) (s : List ℕ) (refused : ℕ → Type 0) (right : List ℕ → Type 0) → Checked q r len mx s refused right → ((k : ℕ) → refused k → ⊥)
+    → (h : Sound q r len mx s) × right (h .held)
+not-refused q r len mx s refused right p never = not-early q r len mx s refused right p (λ k _. never k)
 
 -- ---- every holding of at most capacity has a sound buffer
 pub a-filter : (q r : ℕ) (l : List ℕ) → Widths q r → Holding (slots q) (2 ^ r) l → length l ≤ capacity q → Sound q r (length l) 0 (image q r l)
