@@ -7,6 +7,11 @@
 
 enum { QBITS = 6, RBITS = 8, BYTES = 89 };
 
+/* As the library has it. */
+_Static_assert(sizeof(strumblay_sizes) == 16 && sizeof(strumblay_numbers) == 24 &&
+                   offsetof(strumblay_numbers, family) == 16,
+               "the record's layout");
+
 /* A number of our own for the hash that the fingerprints come from. */
 static const uint64_t family = 2026;
 

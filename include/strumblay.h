@@ -42,9 +42,9 @@
 extern "C" {
 #endif
 
-/* What a filter is by its sizes: how many fingerprints it holds, the widths of quotient and
- * remainder, and the largest qbits it may grow to, 0 for none. A fingerprint is the low qbits + rbits
- * bits of a hash; higher bits are ignored. */
+/* The sizes of a filter: how many fingerprints it holds, the widths of quotient and remainder, and
+ * the largest qbits it may grow to, 0 for none. Of a hash only the low qbits + rbits bits count; they
+ * are its fingerprint. (The buffer's length goes with the buffer.) */
 typedef struct {
     uint64_t len;
     uint8_t qbits;
@@ -55,7 +55,8 @@ typedef struct {
 /* The record of a filter: its sizes, and the family, a number of yours that says which hash made the
  * fingerprints. A fresh filter takes it, every record given back has the one that was given, and
  * filters of two families are not merged. No other call asks for it, and the bytes of a sound filter
- * don't depend on it; so calls that only read take the sizes alone. */
+ * don't depend on it; so calls that only read take the sizes alone, and no check notices a family
+ * that is wrong. */
 typedef struct {
     strumblay_sizes sizes;
     uint64_t family;

@@ -6,6 +6,9 @@
 //! call only, one that is written overlaps no other by Rust's own rules, and the library keeps
 //! inside them whatever they and the numbers hold.
 
+use crate::Numbers;
+use core::mem::{offset_of, size_of};
+
 mod answers;
 mod changing;
 mod growing;
@@ -17,3 +20,6 @@ pub use changing::*;
 pub use growing::*;
 pub use planning::*;
 pub use reading::*;
+
+// As C has it: the sizes in sixteen bytes, and the family behind them.
+const _: () = assert!(size_of::<Numbers>() == 24 && offset_of!(Numbers, family) == 16);

@@ -74,8 +74,8 @@ impl<B> Filter<B> {
 }
 
 impl Filter<Vec<u8>> {
-    /// An empty filter in a buffer of its own, of [`Widths`] and a [family](Widths::family). Refuses
-    /// 1, 4.
+    /// An empty filter in a buffer of its own, of [`Widths`](crate::Widths) and a
+    /// [family](crate::Widths::family). Refuses 1, 4.
     pub fn new(fresh: Fresh) -> Result<Filter<Vec<u8>>> {
         let buffer = vec![0; fresh.widths.buffer_len()?];
         Filter::fresh(buffer, fresh)

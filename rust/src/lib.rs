@@ -14,7 +14,7 @@
 //! assert!(filter.contains(replaced)?);
 //! assert!(!filter.contains(arriving)?);
 //!
-//! // Save the two parts; whatever comes back is checked before it is believed.
+//! // Save the two parts; the buffer that comes back is checked before it is believed.
 //! let (mut buffer, numbers) = filter.into_parts();
 //! assert!(Filter::from_parts(&buffer[..], numbers).check().is_ok());
 //! buffer[0] = 9;

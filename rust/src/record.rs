@@ -3,7 +3,7 @@
 /// The record beside a buffer; saved together with it. A list that was saved before there was a
 /// family is given one here.
 #[repr(C)]
-#[derive(Clone, Copy, PartialEq, Eq, Hash, Debug, Default)]
+#[derive(Clone, Copy, PartialEq, Eq, Hash, Debug)]
 pub struct Numbers {
     /// How many fingerprints are held, each as often as it is.
     pub len: u64,
@@ -51,7 +51,7 @@ pub struct Widths {
 /// assert_eq!(filter.family(), 2026);
 /// # Ok::<(), Error>(())
 /// ```
-#[derive(Clone, Copy, PartialEq, Eq, Hash, Debug, Default)]
+#[derive(Clone, Copy, PartialEq, Eq, Hash, Debug)]
 #[must_use]
 pub struct Fresh {
     /// The widths.
@@ -61,7 +61,7 @@ pub struct Fresh {
 }
 
 impl Widths {
-    /// A fresh filter of these widths, for the fingerprints of this family.
+    /// What a fresh filter of these widths is made of, for the fingerprints of this family.
     pub const fn family(self, family: u64) -> Fresh {
         Fresh { widths: self, family }
     }

@@ -18,7 +18,8 @@ type Asked = Result<Answer, u64>;
 impl Proved {
     /// The subject that makes the checked calls.
     pub fn checked() -> Proved {
-        Proved { quick: false, numbers: Numbers::default(), buffer: Guarded::new(&[]) }
+        let numbers = Numbers { len: 0, qbits: 0, rbits: 0, max_qbits: 0, family: 0 };
+        Proved { quick: false, numbers, buffer: Guarded::new(&[]) }
     }
 
     /// The subject that makes the quick calls.

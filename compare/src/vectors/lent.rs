@@ -19,7 +19,8 @@ pub struct Lent {
 impl Lent {
     /// Nothing lent yet.
     pub fn new() -> Lent {
-        Lent { numbers: Numbers::default(), size: 0, room: vec![0; ROOM] }
+        let numbers = Numbers { len: 0, qbits: 0, rbits: 0, max_qbits: 0, family: 0 };
+        Lent { numbers, size: 0, room: vec![0; ROOM] }
     }
 
     /// The bytes that are lent.

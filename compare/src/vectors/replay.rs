@@ -233,7 +233,7 @@ impl Replay {
         let theirs = self.other.check()?;
         // The original asks nothing of the families.
         if mine.family != theirs.family {
-            return mine.merge(&theirs, keep != 0).map(|_| "filter".into());
+            return Err(mine.merge(&theirs, keep != 0).expect_err("two families"));
         }
         let mut merged = self.own.original();
         merged.merge(keep != 0, &self.other.original()).map_err(number_of)?;

@@ -178,7 +178,7 @@ pub nineteen : (n : Numbers) (s : List ℕ) (m : Numbers) (o : List ℕ) (keep :
 nineteen n s m o keep d t p =
     let y = not-early _ _ _ _ s _ _ p (λ k h z. omega (arith, h, ap number (z .0))) in
     let z = not-early _ _ _ _ o _ _ (y .1) (λ k h z. omega (arith, h, ap number (z .0))) in
-    (y .0, z .0, λ e. cases (y .0 .held) (z .0 .held) (z .1 .same e) (decLt (widthOf m) (widthOf n)) (decLt (widthOf n) (widthOf m)))
+    (y .0, z .0, λ e. refutes (y .0 .held) (z .0 .held) (z .1 .same e) (decLt (widthOf m) (widthOf n)) (decLt (widthOf n) (widthOf m)))
   where
     lands : (k : ℕ) (x : Numbers) (l : List ℕ) → k ≤ 12 → Lands k x l d (refuses 19) t → ⊥
     lands k x l h q = go (eq-zero-or-pos k)
@@ -187,10 +187,10 @@ nineteen n s m o keep d t p =
         go (inl z) = omega (arith, ap number (q .done z .0))
         go (inr z) = omega (arith, h, ap number (q .refused z .0))
 
-    cases : (la lb : List ℕ) → MergesTo n m keep la lb d (Refused 19) t → Dec (widthOf m < widthOf n) → Dec (widthOf n < widthOf m) → ⊥
-    cases la lb q (yes h) z = omega (arith, ap number (q .narrower h .0))
-    cases la lb q (no h) (yes z) = lands _ _ _ (else-most 12 (takenDue (n .qbits) la (taken keep (n .qbits) (n .rbits) la lb)) _ (taken-most _ la _) (destination-most _ _ (length d))) (q .wider z)
-    cases la lb q (no h) (no z) = lands _ _ _ (else-most 12 (joinedDue (n .qbits) (n .«max_qbits») (wanted keep la lb)) _ (joined-most _ _ _) (destination-most _ _ (length d))) (q .equal (omega arith))
+    refutes : (la lb : List ℕ) → MergesTo n m keep la lb d (Refused 19) t → Dec (widthOf m < widthOf n) → Dec (widthOf n < widthOf m) → ⊥
+    refutes la lb q (yes h) z = omega (arith, ap number (q .narrower h .0))
+    refutes la lb q (no h) (yes z) = lands _ _ _ (else-most 12 (takenDue (n .qbits) la (taken keep (n .qbits) (n .rbits) la lb)) _ (taken-most _ la _) (destination-most _ _ (length d))) (q .wider z)
+    refutes la lb q (no h) (no z) = lands _ _ _ (else-most 12 (joinedDue (n .qbits) (n .«max_qbits») (wanted keep la lb)) _ (joined-most _ _ _) (destination-most _ _ (length d))) (q .equal (omega arith))
 
 -- ---- what the result holds
 -- a list of which P says how often it has each fingerprint

@@ -80,7 +80,7 @@ MergesWider n s m o keep d a t = OfBoth n s m o (λ la lb. WiderTo n keep la lb 
 abbrev pub MergesSound : Numbers → List ℕ → Numbers → List ℕ → ℕ → List ℕ → Rebuilt → List ℕ → Type 0
 MergesSound n s m o keep d a t = OfBoth n s m o (λ la lb. MergesTo n m keep la lb d a t)
 
--- and of any two that passed 1 to 5
+-- the same of any two families: 19, or what is promised of one
 abbrev pub MergesPair : Numbers → List ℕ → Numbers → List ℕ → ℕ → List ℕ → Rebuilt → List ℕ → Type 0
 MergesPair n s m o keep d a t = OfBoth n s m o (λ la lb. MergesFamily n m keep la lb d a t)
 

@@ -189,7 +189,7 @@ max-fits q r mx e n = go (decLe q mx) (decLe mx 59) (decLe mx (q + r - 1))
     go (yes a) (no b) c = absurd (omega (arith, max-bad q r mx n (λ z. b (z .1))))
     go (yes a) (yes b) (no c) = absurd (omega (arith, max-bad q r mx n (λ z. c (z .2))))
 
--- no number of these is above 5; nor of two questions, where neither gives one above a bound
+-- of two questions of which neither gives a number above a bound, none is given above it; so none of these is above 5
 pub else-most : (most a b : ℕ) → a ≤ most → b ≤ most → orElse a b ≤ most
 unfolding orElse
 else-most most zero b x y = y
