@@ -5,7 +5,8 @@ use Rattle.theory.specs.Shape.{slots}
 use Rattle.theory.specs.Sound.{Checked}
 use Rattle.theory.specs.Report.{buffer_of, largest_qbits, header_due, refused, sound, report_of}
 use Rattle.theory.specs.refusals.SoundDecided.{sound_dec}
-use Rattle.theory.specs.program.TextByDue.{report_checked, report_few}
+use Rattle.theory.specs.program.TextByDue.{report_few}
+use Rattle.theory.proofs.program.TextByDue.{report_checked}
 use Rattle.layout.specs.declared.numbers.Numbers.{Numbers}
 use Rattle.filter.specs.declared.listing.Place.{Place}
 use Rattle.filter.specs.declared.listing.Begun.TheVariants as begun

@@ -1,4 +1,6 @@
 // The check program: is standard input a sound list, and what does it hold? All that matters is `report`; `main` reads and writes.
+#![tactic(auto)]
+
 use report::TEXT;
 
 mod report;

@@ -7,7 +7,7 @@ use Rattle.theory.specs.Shape.{Widths}
 use Rattle.theory.specs.Answer.{gives, Looked}
 use Rattle.theory.specs.Holding.{copies, run, seek}
 use Rattle.theory.specs.list.Seek.{copies_run}
-use Rattle.theory.specs.check.Decides.{holds_image}
+use Rattle.theory.proofs.check.Decides.{holds_image}
 use Rattle.layout.specs.declared.numbers.Numbers.{Numbers}
 use Rattle.layout.specs.Records.{shape_of, HoldsOf, fingerprint_of, Answers, AnswersQuick}
 use Rattle.filter.specs.declared.lookup.Seen.{Seen}

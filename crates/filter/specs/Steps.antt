@@ -9,7 +9,7 @@ use native.Mathlib.Omega.{arith}
 use Rattle.std.proofs.Math.Decide.{dec_lt}
 use Rattle.std.proofs.Math.ListN.{length, get_or, drop, length-drop}
 use Rattle.std.proofs.lemmas.List.{length-map}
-use Rattle.theory.specs.images.ImageBytes.{image_tells}
+use Rattle.theory.proofs.images.ImageViews.{image_tells}
 use Rattle.theory.specs.refusals.Demands.{not_refused}
 use Rattle.layout.specs.declared.numbers.Numbers.{Numbers}
 use Rattle.filter.specs.declared.listing.Place.{Place}

@@ -1,4 +1,6 @@
 // The retired list read: lookup, count and listing over the layout crate's promises.
+#![tactic(auto)]
+
 pub mod contains;
 pub mod listing;
 pub mod lookup;

@@ -12,7 +12,7 @@ use Rattle.theory.specs.Joining.{added, growth_due}
 use Rattle.theory.specs.number.Bytes.{Bytes}
 use Rattle.theory.specs.images.Sizes.{next_room}
 use Rattle.theory.specs.images.ImageBytes.{image_tail}
-use Rattle.theory.specs.images.IsImage.{is_image, image_is}
+use Rattle.theory.proofs.images.IsImage.{is_image, image_is}
 use Rattle.theory.specs.list.UpTo.{added_up_to, up_to_all, added_alone, cut_same}
 use Rattle.theory.specs.refusals.ByNumber.{max_good, max_fits, else_none, else_some}
 use Rattle.layout.specs.Judging.{clear_of}

@@ -1,4 +1,6 @@
 // Growth, merge and insert with a spare, over the filter's promises.
+#![tactic(auto)]
+
 pub mod adding;
 pub mod holder;
 pub mod merge;

@@ -5,7 +5,7 @@ use Rattle.theory.specs.Shape.{capacity, blocks}
 use Rattle.theory.specs.number.Bytes.{Bytes}
 use Rattle.theory.specs.check.Step.{Cursor, begin, Answer}
 use Rattle.theory.specs.check.Buffer.{steps_on}
-use Rattle.theory.specs.check.Decides.{answer_holds, holds_answer}
+use Rattle.theory.proofs.check.Decides.{answer_holds, holds_answer}
 use Rattle.theory.specs.refusals.ByNumber.{Clear, none_due}
 use Rattle.layout.specs.declared.numbers.Numbers.{Numbers}
 use Rattle.layout.specs.declared.check.Verdict.{Verdict}

@@ -3,7 +3,6 @@ pub mod Accepts
 pub mod Agree
 pub mod Buffer
 pub mod Complete
-pub mod Decides
 pub mod Decode
 pub mod Local
 pub mod Loops

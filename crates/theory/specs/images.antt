@@ -5,7 +5,6 @@ pub mod CountsTold
 pub mod EmptyImage
 pub mod Filled
 pub mod ImageBytes
-pub mod IsImage
 pub mod LaidOut
 pub mod SameBuffer
 pub mod Sizes

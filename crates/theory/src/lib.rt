@@ -1,1 +1,3 @@
 // Definitions and laws alone: everything is in specs/.
+#![tactic(auto)]
+

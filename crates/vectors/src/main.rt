@@ -1,6 +1,8 @@
 // Replays a list of calls from standard input and writes a line for each answer, so that the gate tests the compiled code. The file `stdout` has what
 // the original answers, and to an insert with max_count 0 and a merge of two families what the model answers: compare/README.md says how it is made, and
 // lists the calls. A test driver promises nothing of its own; it is proved safe, and that it ends.
+#![tactic(auto)]
+
 use script::Call;
 use state::State;
 

@@ -10,7 +10,7 @@ use Rattle.theory.specs.Sound.{last_eight}
 use Rattle.theory.specs.number.Bytes.{Bytes, le}
 use Rattle.theory.specs.images.Block.{tail_at}
 use Rattle.theory.specs.images.ImageBytes.{image_tail}
-use Rattle.theory.specs.images.IsImage.{is_image}
+use Rattle.theory.proofs.images.IsImage.{is_image}
 use Rattle.theory.specs.images.Tail.{tail_bytes_lem}
 use Rattle.theory.specs.writing.Removing.{fewer_length}
 use Rattle.theory.specs.list.RuleCases.{absent_answer, held_answer, fewer_absent}

@@ -1,4 +1,6 @@
 // The retired list written: insert and remove, over the filter's runs and lookups.
+#![tactic(auto)]
+
 pub mod insert;
 pub mod remove;
 pub mod shift;

@@ -1,19 +1,16 @@
 -- The image's cells are laid out by the carry. Assumes nothing.
 use Prim.Native.Nat.{ℕ, zero, suc, ◌+◌, ◌-◌, ◌*◌, ◌/◌, ◌%◌, ◌≤◌, ◌<◌}
-use Rattle.std.specs.Prelude.{◌≡◌, List}
+use Rattle.std.specs.Prelude.{◌≡◌}
 use Rattle.std.proofs.Math.Path.{refl, sym, ap}
 use Rattle.std.proofs.Common.{◌∙◌, mod-lt, mod-eq_of_lt, div-add-mod', add_comm, zero-mul}
 use native.Mathlib.Omega.{arith}
 use Rattle.std.proofs.Math.Decide.{dec_lt, ℕ_discrete}
 use Rattle.std.proofs.Math.Nat.{add-mod-mod, add-mod_right, mul-add-mod_self_right}
-use Rattle.std.proofs.Math.ListN.{get_or}
 use Rattle.theory.specs.tools.Choose.{choose, choose_yes, choose_no, choose_by}
 use Rattle.theory.specs.tools.Total.{total_one}
-use Rattle.theory.specs.Holding.{run, Holding}
-use Rattle.theory.specs.Image.{behind, views_of, run_at, start, carry, many, last, rest_at, cell}
+use Rattle.theory.specs.Image.{behind, start, carry, cell}
 use Rattle.theory.specs.carry.Carry.{Free, mod_window, run_not_free, carry_per, places_distinct, Round}
 use Rattle.theory.specs.images.Filled.{Filled, filled_round}
-use Rattle.theory.specs.images.ByViews.{many_round}
 
 -- a function that repeats after m is told by its argument modulo m
 pub per_mod : (m : ℕ) (f : ℕ → ℕ) → ((x : ℕ) → f (x + m) ≡ f x) → (k y : ℕ) → f (y + k * m) ≡ f y
@@ -76,16 +73,6 @@ module _ (m : ℕ) (n : ℕ → ℕ) (r : Round m n) (c : ℕ → ℕ → ℕ) w
   cell_filled cper = filled_round m n c (λ t. cell m n c m (t % m)) r cper (λ t. ap (cell m n c m) (add-mod_right t m)) 0
       (λ x a b j l. cell_hit m _ x j (omega arith) (mod-lt (start m n x + j) (omega arith)) (omega arith) l refl)
       (λ t a b f. ap (cell m n c m) (mod-eq_of_lt (omega arith)) ∙ cell_miss m t (omega arith) (omega arith) f)
-
--- the runend bits and the remainders that `Image` gives a holding
-module _ (m R : ℕ) (l : List ℕ) (pos : 0 < R) (h : Holding m R l) where
-  pub ends_filled : Filled m (many m R l) (last (many m R l)) (λ t. (views_of m R l).runend (t % m))
-  unfolding views_of last
-  ends_filled = cell_filled m (many m R l) (many_round m R l pos h) (last (many m R l)) (λ x j. ap (λ z. 1 - (z - suc j)) ((many_round m R l pos h).per x))
-
-  pub rests_filled : Filled m (many m R l) (rest_at m R l) (λ t. (views_of m R l).remainder (t % m))
-  unfolding views_of rest_at run_at
-  rests_filled = cell_filled m (many m R l) (many_round m R l pos h) (rest_at m R l) (λ x j. ap (λ z. get_or (run R l z) j 0) (add-mod_right x m))
 
 -- what holds of every content holds of every cell
 pub cell_all : (P : ℕ → Type 0) (m : ℕ) (n : ℕ → ℕ) (c : ℕ → ℕ → ℕ) → P 0 → (k : ℕ) → ((x : ℕ) → x < k → (j : ℕ) → j < n x → P (c x j)) → (s : ℕ) → P (cell m n c k s)

@@ -5,9 +5,8 @@ use Rattle.std.proofs.Common.{◌∙◌, arith, length-drop, take_all}
 use Rattle.std.proofs.Math.Pow.{pow_mono}
 use Rattle.theory.specs.Shape.{slots}
 use Rattle.theory.specs.Refusal.{due}
-use Rattle.theory.specs.Sound.{Sound, Checked}
-use Rattle.theory.specs.Report.{len_of, qbits_of, rbits_of, max_of, header_bytes, buffer_of, largest_qbits, header_due, number_due, refused, sound, checked, answer, report_of}
-use Rattle.theory.specs.images.ImageBytes.{image_tells}
+use Rattle.theory.specs.Sound.{Sound}
+use Rattle.theory.specs.Report.{len_of, qbits_of, rbits_of, max_of, header_bytes, buffer_of, largest_qbits, header_due, number_due, refused, checked, answer, report_of}
 use Rattle.theory.specs.refusals.ByNumber.{else_none, else_some, due_rest, none_due}
 use Rattle.theory.specs.refusals.SoundDecided.{sound_dec}
 use Rattle.theory.specs.refusals.ProgramAsks.{none_header}
@@ -17,28 +16,18 @@ pub part : (s : List ℕ) → take (length s - header_bytes) (drop header_bytes 
 unfolding buffer_of
 part s = take_all (length s - header_bytes) (drop header_bytes s) (omega (arith, length-drop header_bytes s))
 
-answer_some : (k : ℕ) (text : List ℕ) → 0 < k → answer k text ≡ refused k
+pub answer_some : (k : ℕ) (text : List ℕ) → 0 < k → answer k text ≡ refused k
 unfolding answer
 answer_some zero text h = absurd (omega arith)
 answer_some (suc k) text h = refl
 
-answer_none : (k : ℕ) (text : List ℕ) → k ≡ 0 → answer k text ≡ text
+pub answer_none : (k : ℕ) (text : List ℕ) → k ≡ 0 → answer k text ≡ text
 unfolding answer
 answer_none zero text h = refl
 answer_none (suc k) text h = absurd (omega arith)
 
 module _ (q r len mx : ℕ) (b : List ℕ) where
-  -- a sound buffer holds one list
-  pub same_held : (h h' : Sound q r len mx b) → h.held ≡ h'.held
-  same_held h h' =
-      image_tells q r (none_due q r len mx (length b) h.none).widths.low h.held h'.held h.holds.holding h'.holds.holding (sym h.holds.bytes ∙ h'.holds.bytes)
-
-  checked_sound : (d : Dec (Sound q r len mx b)) (h : Sound q r len mx b) → checked d ≡ sound len h.held
-  unfolding checked
-  checked_sound (yes g) h = ap (sound len) (same_held g h)
-  checked_sound (no g) h = absurd (g h)
-
-  checked_damaged : (d : Dec (Sound q r len mx b)) → ¬ (Sound q r len mx b) → checked d ≡ refused 6
+  pub checked_damaged : (d : Dec (Sound q r len mx b)) → ¬ (Sound q r len mx b) → checked d ≡ refused 6
   unfolding checked
   checked_damaged (yes g) h = absurd (h g)
   checked_damaged (no g) h = refl
@@ -57,19 +46,11 @@ module _ (s : List ℕ) where
       report_number (omega (arith, e)) ∙ ap refused e
 
   module _ (none : header_due s ≡ 0) where
-    asked : report_of s ≡ answer (due (qbits_of s) (rbits_of s) (len_of s) (max_of s) (length (buffer_of s))) (checked (sound_dec (qbits_of s) (rbits_of s) (len_of s) (max_of s) (buffer_of s)))
+    pub asked : report_of s ≡ answer (due (qbits_of s) (rbits_of s) (len_of s) (max_of s) (length (buffer_of s))) (checked (sound_dec (qbits_of s) (rbits_of s) (len_of s) (max_of s) (buffer_of s)))
     unfolding report_of number_due
     asked =
         let e : number_due s ≡ due (qbits_of s) (rbits_of s) (len_of s) (max_of s) (length (buffer_of s)) = else_none (header_due s) _ none ∙ sym (due_rest _ _ _ _ _ (none_header s none).1) in
         rw e
-
-    -- none of them is due: then the buffer is checked
-    pub report_checked : Checked (qbits_of s) (rbits_of s) (len_of s) (max_of s) (buffer_of s) (λ k. report_of s ≡ refused k) (λ l. report_of s ≡ sound (len_of s) l)
-    report_checked = record {
-      early = λ h. asked ∙ answer_some _ _ h;
-      damaged = λ e h. asked ∙ answer_none _ _ e ∙ checked_damaged _ _ _ _ _ _ h;
-      sound = λ e l h. asked ∙ answer_none _ _ e ∙ checked_sound _ _ _ _ _ _ (record { none = e; held = l; holds = h });
-    }
 
     -- a line for each slot is enough
     pub report_few : Sound (qbits_of s) (rbits_of s) (len_of s) (max_of s) (buffer_of s) → len_of s < slots largest_qbits

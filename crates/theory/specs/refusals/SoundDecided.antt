@@ -2,7 +2,7 @@
 -- Assumes nothing.
 use Rattle.std.specs.Prelude.{ℕ, zero, suc, ◌*◌, ◌^◌, ◌<◌, ◌≡◌, refl, length}
 use Rattle.std.proofs.Common.{subst, arith}
-use Rattle.std.proofs.Math.Logic.{Dec·and, Dec·of-iff}
+use mathlib.Core.Logic.Dec as D
 use mathlib.Core.List.{List, [], ◌∷◌, List-discrete}
 use Rattle.std.proofs.Math.Decide.{dec_le, dec_lt, ℕ_discrete}
 use Rattle.theory.specs.tools.Cases.{by_eq}
@@ -24,13 +24,13 @@ number_dec P d (suc b) = go (d b) (number_dec P d b)
 
 list_dec : (k b : ℕ) (P : List ℕ → Type 0) → ((l : List ℕ) → Dec (P l)) → Dec ((l : List ℕ) × (length l ≡ k) × Under b l × P l)
 unfolding Under
-list_dec zero b P d = Dec·of-iff (λ h. ([], refl, tt, h), λ z. none z.0 z.1 z.3) (d [])
+list_dec zero b P d = D.of_iff (λ h. ([], refl, tt, h), λ z. none z.0 z.1 z.3) (d [])
   where
     none : (l : List ℕ) → length l ≡ 0 → P l → P []
     none [] e p = p
     none (f ∷ l) e p = absurd (omega arith)
 list_dec (suc k) b P d =
-    Dec·of-iff (λ h. (h.0 ∷ h.2.0, omega (arith, h.2.1), (h.1, h.2.2), h.2.3), λ z. split z.0 z.1 z.2 z.3)
+    D.of_iff (λ h. (h.0 ∷ h.2.0, omega (arith, h.2.1), (h.1, h.2.2), h.2.3), λ z. split z.0 z.1 z.2 z.3)
     (number_dec (λ f. (l : List ℕ) × (length l ≡ k) × Under b l × P (f ∷ l)) (λ f. list_dec k b (λ l. P (f ∷ l)) (λ l. d (f ∷ l))) b)
   where
     split : (l : List ℕ) → length l ≡ suc k → Under b l → P l → (f : ℕ) × (f < b) × ((l : List ℕ) × (length l ≡ k) × Under b l × P (f ∷ l))
@@ -41,18 +41,18 @@ list_dec (suc k) b P d =
 least_dec : (a : ℕ) (l : List ℕ) → Dec (Least a l)
 unfolding Least
 least_dec a [] = yes tt
-least_dec a (f ∷ l) = Dec·and (dec_le a f) (least_dec a l)
+least_dec a (f ∷ l) = D.and (dec_le a f) (least_dec a l)
 
 ascending_dec : (l : List ℕ) → Dec (Ascending l)
 unfolding Ascending
 ascending_dec [] = yes tt
-ascending_dec (f ∷ l) = Dec·and (least_dec f l) (ascending_dec l)
+ascending_dec (f ∷ l) = D.and (least_dec f l) (ascending_dec l)
 
 pub sound_dec : (q r len mx : ℕ) (s : List ℕ) → Dec (Sound q r len mx s)
 sound_dec q r len mx s =
-    Dec·of-iff (λ h. found h.0 h.1, λ z. (z.none, (z.held, z.holds.many, z.holds.holding.under, (z.holds.holding.ascending, (z.holds.holding.fewer, z.holds.bytes)))))
-    (Dec·and (ℕ_discrete (due q r len mx (length s)) 0)
-    (list_dec len (slots q * 2 ^ r) Is (λ l. Dec·and (ascending_dec l) (Dec·and (dec_lt (length l) (slots q)) (List-discrete ℕ_discrete s (image q r l))))))
+    D.of_iff (λ h. found h.0 h.1, λ z. (z.none, (z.held, z.holds.many, z.holds.holding.under, (z.holds.holding.ascending, (z.holds.holding.fewer, z.holds.bytes)))))
+    (D.and (ℕ_discrete (due q r len mx (length s)) 0)
+    (list_dec len (slots q * 2 ^ r) Is (λ l. D.and (ascending_dec l) (D.and (dec_lt (length l) (slots q)) (List-discrete ℕ_discrete s (image q r l))))))
   where
     Is : List ℕ → Type 0
     Is l = Ascending l × ((length l < slots q) × (s ≡ image q r l))

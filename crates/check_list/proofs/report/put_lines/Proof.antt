@@ -7,7 +7,7 @@ use native.Mathlib.Omega.{arith}
 use lib.ListN.{length, take, drop, length-take, length-drop}
 use lib.Seq.{take_all}
 use Rattle.theory.specs.Text.{lines}
-use Rattle.theory.specs.program.TextByDue.{same_held}
+use Rattle.theory.proofs.program.TextByDue.{same_held}
 use Rattle.layout.specs.declared.numbers.Numbers.{Numbers}
 use Rattle.layout.specs.Records.{SoundOf}
 use Rattle.filter.specs.declared.listing.Place.{Place}

@@ -1,0 +1,2 @@
+-- The check decides soundness.
+pub mod Decides

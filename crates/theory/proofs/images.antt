@@ -1,0 +1,3 @@
+-- The image by its views.
+pub mod ImageViews
+pub mod IsImage

@@ -1,0 +1,2 @@
+-- What the promises pin down.
+pub mod Demands
