@@ -6,14 +6,14 @@ ghost use Rattle.bits.specs.Select.{Selected, Cleared};
 use crate::count::ones;
 
 // Where the n-th one of a word stands; or it has no n-th one.
-#[derive(Drop)]
+#[derive(Clone, Copy)]
 pub enum Nth {
     At(u64),
     Nothing,
 }
 
 // What a walk looks for, and where it stands; or there is none.
-#[derive(Drop)]
+#[derive(Clone, Copy)]
 pub enum Found {
     At(u64),
     Nothing,

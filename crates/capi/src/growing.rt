@@ -9,7 +9,7 @@ use layout::numbers::Numbers;
 
 // A writer's answer, whether the spare holds the filter from now on (1 or 0), and the record afterwards.
 #[repr(C)]
-#[derive(Drop)]
+#[derive(Clone, Copy)]
 pub struct SpareAnswer {
     pub number: u64,
     pub answer: u64,

@@ -8,7 +8,7 @@ use filter::listing::{Begun, Place, Step};
 
 // The place of the first fingerprint, all 0 if refused.
 #[repr(C)]
-#[derive(Drop)]
+#[derive(Clone, Copy)]
 pub struct First {
     pub number: u64,
     pub place: Place,
@@ -16,7 +16,7 @@ pub struct First {
 
 // Whether a fingerprint was found (1 or 0), it, and the place after it.
 #[repr(C)]
-#[derive(Drop)]
+#[derive(Clone, Copy)]
 pub struct Next {
     pub number: u64,
     pub found: u64,

@@ -9,7 +9,7 @@ use layout::shape::{Shape, Shaped};
 
 // A refusal's number, or 0 and a value.
 #[repr(C)]
-#[derive(Drop)]
+#[derive(Clone, Copy)]
 pub struct Outcome {
     pub number: u64,
     pub value: u64,
@@ -17,7 +17,7 @@ pub struct Outcome {
 
 // A refusal's number, or 0 and what a filter for a capacity and a rate comes to.
 #[repr(C)]
-#[derive(Drop)]
+#[derive(Clone, Copy)]
 pub struct Specs {
     pub number: u64,
     pub max_capacity: u64,
@@ -30,7 +30,7 @@ pub struct Specs {
 
 // A refusal's number, or 0 and the widths planned.
 #[repr(C)]
-#[derive(Drop)]
+#[derive(Clone, Copy)]
 pub struct Plan {
     pub number: u64,
     pub qbits: u8,
@@ -40,7 +40,7 @@ pub struct Plan {
 
 // A writer's answer with the record afterwards.
 #[repr(C)]
-#[derive(Drop)]
+#[derive(Clone, Copy)]
 pub struct Changed {
     pub number: u64,
     pub answer: u64,

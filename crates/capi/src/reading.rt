@@ -10,7 +10,7 @@ use layout::numbers::Numbers;
 
 // A record without its family, which no reading asks for: small enough that C passes it in registers. In C it is strumblay_sizes, and Numbers are strumblay_numbers.
 #[repr(C)]
-#[derive(Drop)]
+#[derive(Clone, Copy)]
 pub struct Sizes {
     pub len: u64,
     pub qbits: u8,
@@ -29,7 +29,7 @@ impl Sizes {
 
 // A refusal's number, or 0, whether held (1 or 0), and the remainders compared.
 #[repr(C)]
-#[derive(Drop)]
+#[derive(Clone, Copy)]
 pub struct Looked {
     pub number: u64,
     pub held: u64,

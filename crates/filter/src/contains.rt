@@ -7,7 +7,7 @@ use layout::check::{Verdict, check};
 use layout::numbers::{Numbers, number_due};
 
 // Held or not, with the number of remainders compared; or refused.
-#[derive(Drop)]
+#[derive(Clone, Copy)]
 pub enum Lookup {
     Held(u64),
     Absent(u64),
@@ -15,7 +15,7 @@ pub enum Lookup {
 }
 
 // How often a fingerprint is held; or refused.
-#[derive(Drop)]
+#[derive(Clone, Copy)]
 pub enum Counting {
     Copies(u64),
     Refused(u8),

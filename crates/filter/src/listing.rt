@@ -16,7 +16,7 @@ use layout::slot;
 
 // How far a listing is: quotient and slot of the fingerprint to come, and how many are to come; three zeros at the end.
 #[repr(C)]
-#[derive(Drop)]
+#[derive(Clone, Copy)]
 pub struct Place {
     pub quotient: u64,
     pub slot: u64,
@@ -24,7 +24,7 @@ pub struct Place {
 }
 
 // A step's answer: the next fingerprint, done, or refused.
-#[derive(Drop)]
+#[derive(Clone, Copy)]
 pub enum Step {
     Fingerprint(u64),
     Done,
@@ -32,14 +32,14 @@ pub enum Step {
 }
 
 // A step's answer and the place after it.
-#[derive(Drop)]
+#[derive(Clone, Copy)]
 pub struct Stepped {
     pub step: Step,
     pub place: Place,
 }
 
 // A beginning's answer: the place of the first fingerprint, or refused.
-#[derive(Drop)]
+#[derive(Clone, Copy)]
 pub enum Begun {
     At(Place),
     Refused(u8),

@@ -11,7 +11,7 @@ use layout::shape::Shape;
 use layout::slot;
 
 // What a scan of a run finds: where the first equal remainder stands, counted from 1; or the run's length, if none is equal.
-#[derive(Drop)]
+#[derive(Clone, Copy)]
 pub enum Seen {
     At(u64),
     Absent(u64),

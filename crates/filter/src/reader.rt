@@ -14,7 +14,7 @@ pub struct Reader<'a> {
 }
 
 // Two steps and the place after them.
-#[derive(Drop)]
+#[derive(Clone, Copy)]
 pub struct Two {
     pub first: Step,
     pub second: Step,

@@ -14,7 +14,7 @@ use layout::shape::Shape;
 use layout::slot;
 
 // What a word says of the runend looked for: its digit, or how many are left behind the word.
-#[derive(Drop)]
+#[derive(Clone, Copy)]
 pub enum InBlock {
     End(u64),
     On(u64),

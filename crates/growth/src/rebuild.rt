@@ -12,7 +12,7 @@ use layout::numbers::Numbers;
 use layout::shape::Shape;
 
 // The record of the filter that the destination holds then; or refused.
-#[derive(Drop)]
+#[derive(Clone, Copy)]
 pub enum Rebuilt {
     Filter(Numbers),
     Refused(u8),

@@ -6,7 +6,7 @@ use layout::numbers::Numbers;
 use writing::writers::{Inserted, insert_fingerprint_counting, insert_fingerprint_counting_quick};
 
 // The answer of an insert with the record afterwards, by the buffer that holds the filter then; or refused.
-#[derive(Drop)]
+#[derive(Clone, Copy)]
 pub enum Placed {
     InOld(u64, Numbers),
     InSpare(u64, Numbers),

@@ -15,7 +15,7 @@ mod flag;
 pub mod step;
 
 // Sound; or refused with a number.
-#[derive(Drop)]
+#[derive(Clone, Copy)]
 pub enum Verdict {
     Sound,
     Refused(u8),

@@ -6,7 +6,7 @@ use crate::numbers::{Numbers, max_due};
 use crate::shape::{Shape, Shaped};
 
 // The record of a fresh filter; or refused.
-#[derive(Drop)]
+#[derive(Clone, Copy)]
 pub enum Made {
     Fresh(Numbers),
     Refused(u8),

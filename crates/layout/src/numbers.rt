@@ -8,7 +8,7 @@ use crate::shape::{Shape, Shaped};
 
 // max_qbits is 0 for none; the family says which hash made the fingerprints.
 #[repr(C)]
-#[derive(Drop)]
+#[derive(Clone, Copy)]
 pub struct Numbers {
     pub len: u64,
     pub qbits: u8,

@@ -10,14 +10,14 @@ use crate::shape::Shape;
 pub const MAX_CAPACITY: u64 = 547637714688252314;
 
 // The qbits that a capacity needs; or refused.
-#[derive(Drop)]
+#[derive(Clone, Copy)]
 pub enum Needed {
     Qbits(u8),
     Refused(u8),
 }
 
 // What a filter for a capacity and a rate comes to.
-#[derive(Drop)]
+#[derive(Clone, Copy)]
 pub struct FilterSpecs {
     pub max_capacity: u64,
     pub max_error_ratio: f64,
@@ -28,14 +28,14 @@ pub struct FilterSpecs {
 }
 
 // What a filter comes to; or refused.
-#[derive(Drop)]
+#[derive(Clone, Copy)]
 pub enum Specified {
     Specs(FilterSpecs),
     Refused(u8),
 }
 
 // The shape that a plan comes to, and max_qbits; or refused.
-#[derive(Drop)]
+#[derive(Clone, Copy)]
 pub enum Planned {
     Widths(Shape, u8),
     Refused(u8),

@@ -4,14 +4,14 @@ ghost use Rattle.theory.specs.Shape.{slots, capacity, blocks, bytes, Widths};
 ghost use Rattle.layout.specs.Shapes.{ShapedAs};
 
 // The widths of a filter.
-#[derive(Drop)]
+#[derive(Clone, Copy)]
 pub struct Shape {
     pub qbits: u8,
     pub rbits: u8,
 }
 
 // A shape; or refused.
-#[derive(Drop)]
+#[derive(Clone, Copy)]
 pub enum Shaped {
     Of(Shape),
     Refused(u8),

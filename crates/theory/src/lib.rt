@@ -1,3 +1,2 @@
 // Definitions and laws alone: everything is in specs/.
 #![tactic(auto)]
-

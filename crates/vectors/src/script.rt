@@ -2,7 +2,7 @@
 ghost use Rattle.std.specs.Prelude.{◌<◌};
 
 // One call: its letter and its three numbers.
-#[derive(Drop)]
+#[derive(Clone, Copy)]
 pub struct Call {
     pub kind: u8,
     pub x: u64,

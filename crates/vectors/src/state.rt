@@ -7,14 +7,14 @@ use filter::listing::Place;
 use layout::numbers::Numbers;
 
 // A record, and how many bytes of the buffer are lent.
-#[derive(Drop)]
+#[derive(Clone, Copy)]
 pub struct Lent {
     pub numbers: Numbers,
     pub size: u64,
 }
 
 // The records of the three buffers, and the place that a listing has reached.
-#[derive(Drop)]
+#[derive(Clone, Copy)]
 pub struct State {
     pub own: Lent,
     pub other: Lent,

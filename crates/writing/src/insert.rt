@@ -16,14 +16,14 @@ use layout::shape::Shape;
 use layout::slot;
 
 // Where a scan of a run stops: the place that one copy more takes, before a larger remainder or at the run's end, and the copies met.
-#[derive(Drop)]
+#[derive(Clone, Copy)]
 pub enum Stop {
     Inside(u64, u64),
     AtEnd(u64, u64),
 }
 
 // The slots, not taken round the end, of one copy more and of the runend bit that comes with it, that bit, and how many copies there are.
-#[derive(Drop)]
+#[derive(Clone, Copy)]
 pub struct Spot {
     pub slot: u64,
     pub bit_slot: u64,
@@ -32,7 +32,7 @@ pub struct Spot {
 }
 
 // What the core of an insert says: nothing changed, one copy more, or refused.
-#[derive(Drop)]
+#[derive(Clone, Copy)]
 pub enum Insertion {
     Enough(u64),
     Added(u64),

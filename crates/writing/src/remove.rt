@@ -18,14 +18,14 @@ use layout::shape::Shape;
 use layout::slot;
 
 // What a scan of a run finds: the last equal place, from 0, and how many places the run has; or none equal.
-#[derive(Drop)]
+#[derive(Clone, Copy)]
 pub enum LastEqual {
     At(u64, u64),
     Nothing,
 }
 
 // The copy that goes: its slot and that of the runend bit that goes with it, not taken round the end, and what the occupied bit becomes.
-#[derive(Drop)]
+#[derive(Clone, Copy)]
 pub struct GoingCopy {
     pub slot: u64,
     pub bit_slot: u64,
@@ -33,14 +33,14 @@ pub struct GoingCopy {
 }
 
 // Which copy a remove takes: the last equal one, or none.
-#[derive(Drop)]
+#[derive(Clone, Copy)]
 pub enum Going {
     Copy(GoingCopy),
     NoCopy,
 }
 
 // What the core of a remove says: one copy fewer, no change, or not the image.
-#[derive(Drop)]
+#[derive(Clone, Copy)]
 pub enum Removal {
     Gone,
     Absent,

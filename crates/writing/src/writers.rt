@@ -10,7 +10,7 @@ use layout::check::{Verdict, check};
 use layout::numbers::{Numbers, number_due};
 
 // The answer of an insert with the record afterwards; or refused.
-#[derive(Drop)]
+#[derive(Clone, Copy)]
 pub enum Inserted {
     Counted(u64, Numbers),
     Refused(u8),
@@ -62,7 +62,7 @@ pub fn insert_fingerprint_counting_quick(
 }
 
 // One copy fewer, with the record afterwards; absent; or refused.
-#[derive(Drop)]
+#[derive(Clone, Copy)]
 pub enum Removed {
     Gone(Numbers),
     Absent,

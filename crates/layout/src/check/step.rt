@@ -18,7 +18,7 @@ use bits::compare::over;
 
 // Where the check stands: the blocks passed in both rounds, the runends owed in the first, the runs pending, and in the second the used slots and
 // whether a test failed.
-#[derive(Drop)]
+#[derive(Clone, Copy)]
 pub struct Cursor {
     pub passed: u64,
     pub owed: u64,

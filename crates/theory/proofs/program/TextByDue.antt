@@ -28,4 +28,3 @@ module _ (s : List ℕ) where
       damaged = λ e h. asked s none ∙ answer_none _ _ e ∙ checked_damaged _ _ _ _ _ _ h;
       sound = λ e l h. asked s none ∙ answer_none _ _ e ∙ checked_sound _ _ _ _ _ _ (record { none = e; held = l; holds = h });
     }
-
