@@ -1,4 +1,4 @@
-/* Strumblay: the retired list, for C on x86-64. Link target/staticlib/libcapi.a (`rt staticlib capi`).
+/* Strumblay: the retired list, for C on x86-64. Link crates/capi/out/libcapi.a (`rt lib` in crates/capi).
  *
  * A filter is a lent buffer and a record that travels by value. No call allocates, keeps
  * a pointer, or reads or writes outside the bytes lent to it, whatever they and the numbers hold;

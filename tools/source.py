@@ -1,10 +1,10 @@
-"""What the tools know of the text of .rt and .antt files: comments, imports, names, contracts, declarations."""
+"""What the tools know of the text of .rt and .antt files: comments, imports, names, contracts, modules, declarations."""
 import os
 import re
 from dataclasses import dataclass
 
 TOP = os.path.dirname(os.path.dirname(os.path.abspath(__file__)))
-IMPORT = re.compile(r"^(?P<marks>(?:(?:pub|ghost|unfoldable)\s+)*)use\s+(?P<path>[^{};\n]+)(?:\{(?P<items>[^}]*)\})?(?P<tail>[^\n]*)$", re.M)
+IMPORT = re.compile(r"^(?P<marks>(?:(?:pub|ghost|unfoldable)\s+)*)use\s+(?P<path>[^{};\n]+)(?:\{(?P<items>(?:[^{}]|\{[^{}]*\})*)\})?(?P<tail>[^\n]*)$", re.M)
 COMMENTS = {
     ".antt": re.compile(r'("(?:[^"\\\n]|\\.)*")|\{-.*?-\}|(?<![^\s(){}.;,@])--[^\n]*', re.S),
     ".rt": re.compile(r"""("(?:[^"\\\n]|\\.)*"|b'(?:[^'\\]|\\.)')|/\*.*?\*/|//[^\n]*""", re.S),
@@ -13,9 +13,16 @@ QUOTED = re.compile(r'"(?:[^"\\]|\\.)*"')
 # these characters end a name of antt, unless it stands between guillemets
 NAME = r"«[^»]*»|[^\s(){}.;,@\"«»]+"
 TOKEN = re.compile(NAME)
-CLAUSE = re.compile(r"\b(?:requires|ensures|invariant|measure|decreases)\s*\{")
+# a clause of a contract, with its name if it has one; a ghost field or member up to its type or its value
+CLAUSE = re.compile(r"\b(?:(?:requires|ensures)\*?(?:[ \t]+\w+)?\s*|ghost[ \t]+\w+[^{};=]*)(?:=\s*)?\{|\bby\s*\{")
+CLAUSE_LINE = re.compile(r"\s*(?:requires|ensures|ghost)\b")
+ATTRIBUTE = re.compile(r"#!?\[tactic\((?P<words>[^\]]*)\)\]")
 MARKED = re.compile(r"(?:(?:unfoldable|abbrev|pub|axiom)\s+)*")
-ITEM = re.compile(r"(?P<pub>pub )?(?:extern \"C\" )?(?P<kind>fn|struct|enum|const|type|impl)\s+(?P<name>\w+)")
+ITEM = re.compile(
+    r"(?P<pub>pub(?:\([^)]*\))? )?(?:(?:const|unsafe|async|extern \"C\") )*"
+    r"(?:(?P<kind>fn|struct|enum|trait|const|static|type)\s+(?P<name>\w+)|(?P<impl>impl)\b(?P<head>[^{]*))"
+)
+OPERATOR = "◌"
 
 
 def read(path):
@@ -24,9 +31,10 @@ def read(path):
 
 
 def sources(top=TOP):
-    """Every .rt and .antt file under crates/."""
+    """Every .rt and .antt file under crates/, but for what rt makes (out/)."""
     found = []
-    for folder, _, names in os.walk(os.path.join(top, "crates")):
+    for folder, below, names in os.walk(os.path.join(top, "crates")):
+        below[:] = [name for name in below if name != "out"]
         found += [os.path.join(folder, name) for name in names if name.endswith((".rt", ".antt"))]
     return sorted(found)
 
@@ -57,8 +65,14 @@ def brought(item):
 def imports(code):
     """Each import: its match, and its items as (what is written, the name it brings)."""
     for found in IMPORT.finditer(code):
-        written = [found["path"]] if found["items"] is None else found["items"].split(",")
-        yield found, [(item.strip(), brought(item)) for item in written if item.strip()]
+        written = [found["path"]] if found["items"] is None else flat(found["items"]).split(",")
+        above = brought(found["path"].rstrip().removesuffix("::"))
+        yield found, [(item.strip(), above if item.strip() == "self" else brought(item)) for item in written if item.strip()]
+
+
+def flat(items):
+    """Items without braces among them: `a, b::{c, d}` is `a, b::c, b::d`."""
+    return re.sub(r"([\w:]+)::\{([^{}]*)\}", lambda match: ",".join(f" {match[1]}::{item.strip()}" for item in match[2].split(",") if item.strip()), items)
 
 
 def without_imports(code):
@@ -67,8 +81,8 @@ def without_imports(code):
 
 # ---- names
 def parts(name):
-    """The parts of an operator; of any other name, the name."""
-    return [part for part in name.split("_") if part] if "_" in name else [name]
+    """The parts of an operator (of `◌+◌`, `+`); of any other name, the name."""
+    return [part for part in name.split(OPERATOR) if part] if OPERATOR in name else [name]
 
 
 def names_in(text):
@@ -85,7 +99,7 @@ def names_in(text):
 
 
 def contracts(code):
-    """What stands between the braces of the contracts of an .rt file."""
+    """What stands between the braces of the contracts and ghost members of an .rt file."""
     taken = []
     for clause in CLAUSE.finditer(code):
         depth, at = 1, clause.end()
@@ -94,6 +108,30 @@ def contracts(code):
             at += 1
         taken.append(code[clause.end():at])
     return "\n".join(taken)
+
+
+def tactic_paths(code, crate):
+    """What the attributes `#[tactic(auto, using(..), unfolding(..))]` of an .rt file name, as (module, name)."""
+    for attribute in ATTRIBUTE.finditer(code):
+        for path in re.findall(r"\w+(?:::[^\s,():]+)+", attribute["words"]):
+            first, *middle, name = path.split("::")
+            yield ".".join(["Rattle", crate if first in ("crate", "self") else first, *middle]), plain(name)
+
+
+# ---- modules and proofs
+def crate_of(path):
+    """The name of the crate that a file lies in."""
+    return path.replace(os.sep, "/").split("crates/")[-1].split("/")[0]
+
+
+def module_of(path):
+    """How others name the module that an .antt file is, as `Rattle.theory.specs.list.Seek`."""
+    return "Rattle." + os.path.splitext(path.replace(os.sep, "/").split("crates/")[-1])[0].replace("/", ".")
+
+
+def is_proof(path):
+    """Whether the file is a function's proof, whose names Rattle looks for itself: one that lies in a folder of proofs/, and not a lemma file."""
+    return re.search(r"/proofs/.+/(?:Proof|Invariants|Answers)\.antt$", path.replace(os.sep, "/")) is not None
 
 
 # ---- declarations
@@ -107,6 +145,7 @@ class Declaration:
     text: str  # without comments, spaces made one
     contract: str = ""  # of a function: what stands before its body
     exported: bool = False
+    named_elsewhere: bool = False  # of a function: a trait's, or a test, which nothing need name
 
 
 def one_line(text):
@@ -166,29 +205,39 @@ def antt_declarations(code):
 
 
 def rt_declarations(code):
-    """Functions, types and constants, methods as `Type::name`."""
+    """Functions, types and constants; methods as `Type::name`, those of a trait's impl as `Trait for Type::name`."""
     lines = without_imports(code).split("\n")
-    found, at, owner, exported = [], 0, "", False
+    found, at, owner, of_trait = [], 0, "", False
     while at < len(lines):
         line = lines[at]
         item = ITEM.match(line.strip())
         if line == "}":
-            owner = ""
-        if "#[no_mangle]" in line:
-            exported = True
-        if not item:
-            at += 1
-            continue
-        if item["kind"] == "impl":
-            owner = item["name"] + "::"
+            owner, of_trait = "", False
+        if item and item["impl"]:
+            owner = owner_of(item["head"]) + "::"
+            of_trait = " for " in owner
+        if not item or item["impl"]:
             at += 1
             continue
         end = end_of_item(lines, at)
-        text = attributes_before(lines, at) + lines[at:end]
+        before = attributes_before(lines, at)
         kind = "fn" if item["kind"] == "fn" else "type"
-        found.append(Declaration(kind, owner + item["name"], at, end, bool(item["pub"]), one_line("\n".join(text)), contract_of(text) if kind == "fn" else "", exported))
-        at, exported = end, False
+        declared = Declaration(kind, owner + item["name"], at, end, bool(item["pub"]), one_line("\n".join(before + lines[at:end])))
+        if kind == "fn":
+            declared.contract = contract_of(before + lines[at:end])
+            declared.exported = any("no_mangle" in attribute for attribute in before)
+            declared.named_elsewhere = of_trait or any(attribute.strip() == "#[test]" for attribute in before)
+        found.append(declared)
+        at = end
     return found
+
+
+def owner_of(head):
+    """Whose methods an impl has: its type, and before it the trait if it is one's; without parameters and bounds."""
+    head = head.split(" where ")[0]
+    while re.search(r"<[^<>]*>", head):
+        head = re.sub(r"<[^<>]*>", "", head)
+    return " for ".join(part.strip().split("::")[-1] for part in head.split(" for "))
 
 
 def attributes_before(lines, at):
@@ -201,13 +250,19 @@ def attributes_before(lines, at):
 
 def end_of_item(lines, at):
     """Behind the item's closing brace, or its semicolon."""
-    closing = " " * indent_of(lines[at]) + "}"
+    indent = " " * indent_of(lines[at])
     for end in range(at, len(lines)):
-        if lines[end] == closing or lines[end].endswith("}") and end == at:
+        if lines[end] == indent + "}" or lines[end].endswith("}") and end == at:
             return end + 1
-        if lines[end].endswith(";") and "{" not in "".join(lines[at:end + 1]):
+        body = [line for line in lines[at:end + 1] if not CLAUSE_LINE.match(line)]
+        if lines[end].endswith(";") and ("{" not in "".join(body) or lines[end].endswith("};") and indent_of(lines[end]) == len(indent) + 4 and indent + "{" not in body and not opens(body[0])):
             return end + 1
     return len(lines)
+
+
+def opens(line):
+    """Whether a line, but for one that begins a clause, ends with the brace of a body."""
+    return line.endswith(" {") and not CLAUSE_LINE.match(line)
 
 
 def contract_of(lines):
@@ -217,7 +272,7 @@ def contract_of(lines):
         if line.strip() == "{":
             break
         taken.append(line)
-        if line.endswith(" {"):
+        if opens(line):
             break
     return one_line("\n".join(taken))
 

@@ -3,7 +3,7 @@
 -- buffer, though on a damaged one the checked call gives 6. Assumes nothing.
 use Rattle.std.specs.Prelude.{ℕ, ◌<◌, ◌≡◌, ◌⊎◌, List, length}
 use Rattle.std.proofs.Common.{sym, ap, ◌∙◌, inl, inr, eq-zero-or-pos}
-use Rattle.std.specs.Borrow.{Bor}
+use Rattle.std.specs.Borrow.{MutBor}
 use Rattle.theory.specs.Answer.{Answer, refuses}
 use Rattle.theory.specs.refusals.Demands.{checked_one, quick_one, quick_checked}
 use Rattle.layout.specs.declared.numbers.Numbers.{Numbers}
@@ -80,5 +80,5 @@ module _ (n : Numbers) (hash most : ℕ) (s d : List ℕ) where
     spare_quick_checked c p q = parts (a, t, e) (b, u, g) (quick_checked Refused Right _ _ _ _ s refused_one right_one Left c (a, t, e) (b, u, g) p q)
 
 -- ---- the holder: the reference itself
-pub holder_pinned : (x : Placed) (old spare r r' : Bor (List ℕ)) → r ≡ holder_of x old spare → r' ≡ holder_of x old spare → r ≡ r'
+pub holder_pinned : (x : Placed) (old spare r r' : MutBor (List ℕ)) → r ≡ holder_of x old spare → r' ≡ holder_of x old spare → r ≡ r'
 holder_pinned x old spare r r' p q = p ∙ sym q
