@@ -4,19 +4,20 @@ use crate::script::Call;
 use crate::state::{Lent, numbers_of, part};
 use layout::fresh::Made;
 use layout::numbers::Numbers;
+use std::io;
 use writing::writers::{Inserted, Removed};
 
 // A fresh filter of these widths and this family.
-fn fresh(buf: &mut [u8], n: Numbers, asked: Numbers) -> Numbers {
+fn fresh(rt: &impl Print, buf: &mut [u8], n: Numbers, asked: Numbers) -> io::Result<Numbers> {
     let made = layout::fresh::fresh(buf, asked.qbits, asked.rbits, asked.max_qbits, asked.family);
     match made {
         Made::Fresh(after) => {
-            say::word(b"fresh");
-            after
+            say::word(rt, "fresh")?;
+            Ok(after)
         }
         Made::Refused(k) => {
-            say::refused(k);
-            n
+            say::refused(rt, k)?;
+            Ok(n)
         }
     }
 }
@@ -39,34 +40,34 @@ fn removed_or(removed: Removed, n: Numbers) -> Numbers {
 }
 
 // An insert's answer said, and the record after it.
-fn say_inserted(n: Numbers, inserted: Inserted) -> Numbers {
+fn say_inserted(rt: &impl Print, n: Numbers, inserted: Inserted) -> io::Result<Numbers> {
     match inserted {
         Inserted::Counted(m, after) => {
-            say::word(b"counted");
-            say::number(m);
-            after
+            say::word(rt, "counted")?;
+            say::number(rt, m)?;
+            Ok(after)
         }
         Inserted::Refused(k) => {
-            say::refused(k);
-            n
+            say::refused(rt, k)?;
+            Ok(n)
         }
     }
 }
 
 // A remove's answer said, and the record after it.
-fn say_removed(n: Numbers, removed: Removed) -> Numbers {
+fn say_removed(rt: &impl Print, n: Numbers, removed: Removed) -> io::Result<Numbers> {
     match removed {
         Removed::Gone(after) => {
-            say::word(b"gone");
-            after
+            say::word(rt, "gone")?;
+            Ok(after)
         }
         Removed::Absent => {
-            say::word(b"absent");
-            n
+            say::word(rt, "absent")?;
+            Ok(n)
         }
         Removed::Refused(k) => {
-            say::refused(k);
-            n
+            say::refused(rt, k)?;
+            Ok(n)
         }
     }
 }
@@ -82,7 +83,7 @@ fn one(kind: u8, buf: &mut [u8], n: Numbers, hash: u64) -> Numbers {
 }
 
 // As many as the call says, each hash a step on from the one before.
-fn many(call: Call, buf: &mut [u8], n: Numbers) -> Numbers {
+fn many(rt: &impl Print, call: Call, buf: &mut [u8], n: Numbers) -> io::Result<Numbers> {
     let mut after = n;
     let mut hash = call.x;
     let mut left = call.z;
@@ -91,32 +92,33 @@ fn many(call: Call, buf: &mut [u8], n: Numbers) -> Numbers {
         after = one(call.kind, buf, after, hash);
         hash = std::num::wrapping_add_u64(hash, call.y);
     }
-    say::word(b"many");
-    after
+    say::word(rt, "many")?;
+    Ok(after)
 }
 
 // One call on the part that is lent; the record afterwards.
-fn ask(call: Call, buf: &mut [u8], n: Numbers) -> Numbers {
+fn ask(rt: &impl Print, call: Call, buf: &mut [u8], n: Numbers) -> io::Result<Numbers> {
     let kind = call.kind;
     match kind {
-        b'f' => fresh(buf, n, numbers_of(0, call.y, call.z)),
+        b'f' => fresh(rt, buf, n, numbers_of(0, call.y, call.z)),
         b'i' => {
             let done = writing::writers::insert_fingerprint_counting(buf, n, call.x, call.y);
-            say_inserted(n, done)
+            say_inserted(rt, n, done)
         }
         b'I' => {
             let done = writing::writers::insert_fingerprint_counting_quick(buf, n, call.x, call.y);
-            say_inserted(n, done)
+            say_inserted(rt, n, done)
         }
-        b'a' | b'x' => many(call, buf, n),
-        b'm' => say_removed(n, writing::writers::remove_fingerprint(buf, n, call.x)),
+        b'a' | b'x' => many(rt, call, buf, n),
+        b'm' => say_removed(rt, n, writing::writers::remove_fingerprint(buf, n, call.x)),
         b'M' => say_removed(
+            rt,
             n,
             writing::writers::remove_fingerprint_quick(buf, n, call.x),
         ),
         _ => {
-            say::word(b"byte");
-            n
+            say::word(rt, "byte")?;
+            Ok(n)
         }
     }
 }
@@ -128,16 +130,16 @@ fn size_for(call: Call, size: u64) -> u64 {
 
 // `f` fresh, `i` insert, `m` remove, `a` and `x` many of either, `b` nothing, after a byte was made another; `I` and `M` are quick. Then len, the
 // family and the sum of the bytes.
-pub fn answer(call: Call, lent: Lent, room: &mut [u8]) -> Lent {
+pub fn answer(rt: &impl Print, call: Call, lent: Lent, room: &mut [u8]) -> io::Result<Lent> {
     let n = lent.numbers;
     let size = size_for(call, lent.size);
     let end = part(size, room);
-    let after = ask(call, &mut room[..end], n);
-    say::number(after.len);
-    say::family(after);
-    say::sum(size, room);
-    Lent {
+    let after = ask(rt, call, &mut room[..end], n)?;
+    say::number(rt, after.len)?;
+    say::family(rt, after)?;
+    say::sum(rt, size, room)?;
+    Ok(Lent {
         numbers: after,
         size,
-    }
+    })
 }

@@ -3,6 +3,7 @@ use crate::say;
 use crate::script::Call;
 use bits::select::Nth;
 use layout::planning::{FilterSpecs, Needed, Planned, Specified};
+use std::io;
 
 // What is not a number has a larger pattern than infinity, but for the sign.
 const INFINITY: u64 = 0x7ff0000000000000;
@@ -20,68 +21,68 @@ fn rate_of(pattern: u64) -> f64 {
 }
 
 // The n-th one of a word, said.
-fn select(word: u64, n: u64) {
+fn select(rt: &impl Print, word: u64, n: u64) -> io::Result<()> {
     let found = bits::select::select(word, n);
     match found {
         Nth::At(p) => {
-            say::word(b"at");
-            say::number(p);
+            say::word(rt, "at")?;
+            say::number(rt, p)
         }
-        Nth::Nothing => say::word(b"nothing"),
+        Nth::Nothing => say::word(rt, "nothing"),
     }
 }
 
 // The qbits for a capacity, said.
-fn needed(capacity: u64) {
+fn needed(rt: &impl Print, capacity: u64) -> io::Result<()> {
     let needed = layout::planning::needed_qbits(capacity);
     match needed {
         Needed::Qbits(q) => {
-            say::word(b"qbits");
-            say::small(q);
+            say::word(rt, "qbits")?;
+            say::small(rt, q)
         }
-        Needed::Refused(k) => say::refused(k),
+        Needed::Refused(k) => say::refused(rt, k),
     }
 }
 
 // What a filter comes to, said.
-fn say_specs(s: FilterSpecs) {
-    say::word(b"specs");
-    say::number(s.max_capacity);
-    say::small(s.fingerprint_bits);
-    say::number(s.memory_bytes_min);
-    say::number(s.memory_bytes_max);
-    say::float(s.max_error_ratio);
-    say::float(s.bits_per_item);
+fn say_specs(rt: &impl Print, s: FilterSpecs) -> io::Result<()> {
+    say::word(rt, "specs")?;
+    say::number(rt, s.max_capacity)?;
+    say::small(rt, s.fingerprint_bits)?;
+    say::number(rt, s.memory_bytes_min)?;
+    say::number(rt, s.memory_bytes_max)?;
+    say::float(rt, s.max_error_ratio)?;
+    say::float(rt, s.bits_per_item)
 }
 
 // The specs for a capacity and a rate, said.
-fn specs(capacity: u64, pattern: u64) {
+fn specs(rt: &impl Print, capacity: u64, pattern: u64) -> io::Result<()> {
     let specified = layout::planning::filter_specs(capacity, rate_of(pattern));
     match specified {
-        Specified::Specs(s) => say_specs(s),
-        Specified::Refused(k) => say::refused(k),
+        Specified::Specs(s) => say_specs(rt, s),
+        Specified::Refused(k) => say::refused(rt, k),
     }
 }
 
 // The plan for two capacities and a rate, said.
-fn plan(initial: u64, most: u64, pattern: u64) {
+fn plan(rt: &impl Print, initial: u64, most: u64, pattern: u64) -> io::Result<()> {
     let planned = layout::planning::plan_resizeable(initial, most, rate_of(pattern));
     match planned {
         Planned::Widths(shape, max_qbits) => {
-            say::word(b"widths");
-            say::widths(shape, max_qbits);
+            say::word(rt, "widths")?;
+            say::widths(rt, shape, max_qbits)
         }
-        Planned::Refused(k) => say::refused(k),
+        Planned::Refused(k) => say::refused(rt, k),
     }
 }
 
 // `e` select, `q` slots, `t` specs, `w` a plan.
-pub fn answer(call: Call) {
+pub fn answer(rt: &impl Print, call: Call) -> io::Result<()> {
     let kind = call.kind;
     match kind {
-        b'e' => select(call.x, call.y),
-        b'q' => needed(call.x),
-        b't' => specs(call.x, call.y),
-        _ => plan(call.x, call.y, call.z),
+        b'e' => select(rt, call.x, call.y),
+        b'q' => needed(rt, call.x),
+        b't' => specs(rt, call.x, call.y),
+        _ => plan(rt, call.x, call.y, call.z),
     }
 }

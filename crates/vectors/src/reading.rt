@@ -5,57 +5,64 @@ use crate::state::{Lent, part};
 use filter::contains::{Counting, Lookup};
 use layout::check::Verdict;
 use layout::numbers::Numbers;
+use std::io;
 
 // The check's verdict, said.
-fn check(buf: &[u8], n: Numbers) {
+fn check(rt: &impl Print, buf: &[u8], n: Numbers) -> io::Result<()> {
     let verdict = layout::check::check(buf, n);
     match verdict {
-        Verdict::Sound => say::word(b"sound"),
-        Verdict::Refused(k) => say::refused(k),
+        Verdict::Sound => say::word(rt, "sound"),
+        Verdict::Refused(k) => say::refused(rt, k),
     }
 }
 
 // A lookup's answer said.
-fn say_lookup(lookup: Lookup) {
+fn say_lookup(rt: &impl Print, lookup: Lookup) -> io::Result<()> {
     match lookup {
         Lookup::Held(k) => {
-            say::word(b"held");
-            say::number(k);
+            say::word(rt, "held")?;
+            say::number(rt, k)
         }
         Lookup::Absent(k) => {
-            say::word(b"absent");
-            say::number(k);
+            say::word(rt, "absent")?;
+            say::number(rt, k)
         }
-        Lookup::Refused(k) => say::refused(k),
+        Lookup::Refused(k) => say::refused(rt, k),
     }
 }
 
 // A count's answer said.
-fn say_count(counting: Counting) {
+fn say_count(rt: &impl Print, counting: Counting) -> io::Result<()> {
     match counting {
         Counting::Copies(m) => {
-            say::word(b"copies");
-            say::number(m);
+            say::word(rt, "copies")?;
+            say::number(rt, m)
         }
-        Counting::Refused(k) => say::refused(k),
+        Counting::Refused(k) => say::refused(rt, k),
     }
 }
 
 // One call on the part that is lent.
-fn ask(call: Call, buf: &[u8], n: Numbers) {
+fn ask(rt: &impl Print, call: Call, buf: &[u8], n: Numbers) -> io::Result<()> {
     let kind = call.kind;
     match kind {
-        b'k' => check(buf, n),
-        b'c' => say_lookup(filter::contains::contains_fingerprint(buf, n, call.x)),
-        b'C' => say_lookup(filter::contains::contains_fingerprint_quick(buf, n, call.x)),
-        b'n' => say_count(filter::contains::count_fingerprint(buf, n, call.x)),
-        _ => say_count(filter::contains::count_fingerprint_quick(buf, n, call.x)),
+        b'k' => check(rt, buf, n),
+        b'c' => say_lookup(rt, filter::contains::contains_fingerprint(buf, n, call.x)),
+        b'C' => say_lookup(
+            rt,
+            filter::contains::contains_fingerprint_quick(buf, n, call.x),
+        ),
+        b'n' => say_count(rt, filter::contains::count_fingerprint(buf, n, call.x)),
+        _ => say_count(
+            rt,
+            filter::contains::count_fingerprint_quick(buf, n, call.x),
+        ),
     }
 }
 
 // `k` check, `c` lookup, `n` count; `C` and `N` are quick.
-pub fn answer(call: Call, lent: Lent, room: &[u8]) {
+pub fn answer(rt: &impl Print, call: Call, lent: Lent, room: &[u8]) -> io::Result<()> {
     let n = lent.numbers;
     let size = part(lent.size, room);
-    ask(call, &room[..size], n);
+    ask(rt, call, &room[..size], n)
 }

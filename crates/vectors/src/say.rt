@@ -5,72 +5,71 @@ use crate::state::part;
 use filter::listing::Place;
 use layout::numbers::Numbers;
 use layout::shape::Shape;
+use std::io;
 
 // The word that a line begins with.
-pub fn word(text: &[u8]) {
-    io::write_all(1, text);
+pub fn word(rt: &impl Print, text: &str) -> io::Result<()> {
+    rt.print(text)
 }
 
 // A number in decimal.
-pub fn number(n: u64) {
-    io::write_all(1, b" ");
-    io::print_decimal(1, n);
+pub fn number(rt: &impl Print, n: u64) -> io::Result<()> {
+    print!(rt; " {n}")
 }
 
 // A small number in decimal.
-pub fn small(n: u8) {
-    number(n as u64);
+pub fn small(rt: &impl Print, n: u8) -> io::Result<()> {
+    number(rt, n as u64)
 }
 
 // A number in so many hex digits.
-pub fn hex(n: u64, digits: usize) {
-    io::write_all(1, b" ");
-    io::print_hex(1, n, digits);
+pub fn hex(rt: &impl Print, n: u64, digits: usize) -> io::Result<()> {
+    print!(rt; " {n:0digits$x}")
 }
 
 // The end of a line.
-pub fn end() {
-    io::write_all(1, b"\n");
+pub fn end(rt: &impl Print) -> io::Result<()> {
+    rt.print("\n")
 }
 
 // A refusal and its number.
-pub fn refused(k: u8) {
-    word(b"refused");
-    small(k);
+pub fn refused(rt: &impl Print, k: u8) -> io::Result<()> {
+    word(rt, "refused")?;
+    small(rt, k)
 }
 
 // The widths of a shape, and max_qbits.
-pub fn widths(shape: Shape, max_qbits: u8) {
-    small(shape.qbits);
-    small(shape.rbits);
-    small(max_qbits);
+pub fn widths(rt: &impl Print, shape: Shape, max_qbits: u8) -> io::Result<()> {
+    small(rt, shape.qbits)?;
+    small(rt, shape.rbits)?;
+    small(rt, max_qbits)
 }
 
 // The family of a record.
-pub fn family(n: Numbers) {
-    hex(n.family, 16);
+pub fn family(rt: &impl Print, n: Numbers) -> io::Result<()> {
+    hex(rt, n.family, 16)
 }
 
 // A record: len, widths and family.
-pub fn record(n: Numbers) {
-    number(n.len);
-    widths(n.shape(), n.max_qbits);
-    family(n);
+pub fn record(rt: &impl Print, n: Numbers) -> io::Result<()> {
+    number(rt, n.len)?;
+    widths(rt, n.shape(), n.max_qbits)?;
+    family(rt, n)
 }
 
 // The place of a listing.
-pub fn place(p: Place) {
-    number(p.quotient);
-    number(p.slot);
-    number(p.remaining);
+pub fn place(rt: &impl Print, p: Place) -> io::Result<()> {
+    number(rt, p.quotient)?;
+    number(rt, p.slot)?;
+    number(rt, p.remaining)
 }
 
 // The bit pattern of a float.
-pub fn float(x: f64) {
+pub fn float(rt: &impl Print, x: f64) -> io::Result<()> {
     if x == x {
-        hex(f64::to_bits(x), 16);
+        hex(rt, f64::to_bits(x), 16)
     } else {
-        word(b" nan");
+        word(rt, " nan")
     }
 }
 
@@ -88,12 +87,12 @@ fn sum_of(buf: &[u8]) -> u64
 }
 
 // The sum of a buffer.
-pub fn whole(buf: &[u8]) {
-    hex(sum_of(buf), 8);
+pub fn whole(rt: &impl Print, buf: &[u8]) -> io::Result<()> {
+    hex(rt, sum_of(buf), 8)
 }
 
 // The sum of the part that is lent.
-pub fn sum(size: u64, room: &[u8]) {
+pub fn sum(rt: &impl Print, size: u64, room: &[u8]) -> io::Result<()> {
     let end = part(size, room);
-    whole(&room[..end]);
+    whole(rt, &room[..end])
 }

@@ -1,10 +1,12 @@
 // What the calls work on: three buffers, of which a part is lent, with a record each, and a place in the listing.
-ghost use Rattle.io.specs.Counts.{IsPrefixLen};
+ghost use Rattle.std.specs.Prelude.{◌≡◌, ◌%◌, min, length};
+ghost use Rattle.vectors.specs.Parts.{IsPrefixLen};
 
 use crate::script::Call;
 use crate::{ROOM, say};
 use filter::listing::Place;
 use layout::numbers::Numbers;
+use std::io;
 
 // A record, and how many bytes of the buffer are lent.
 #[derive(Clone, Copy)]
@@ -34,19 +36,20 @@ pub fn numbers_of(len: u64, widths: u64, family: u64) -> Numbers {
 
 // As many bytes as are asked for and there.
 pub fn part(size: u64, room: &[u8]) -> usize
-    ensures { IsPrefixLen result room.now }
+    ensures in_bounds { IsPrefixLen result room.now }
+    ensures value { result ≡ min (size % 65536) (length room.now) }
 {
-    io::count((size % 65536) as isize, room)
+    ((size % 65536) as usize).min(room.len())
 }
 
 // A record by itself, of the family before it: `r` len, widths, size.
-pub fn record(call: Call, before: Lent) -> Lent {
+pub fn record(rt: &impl Print, call: Call, before: Lent) -> io::Result<Lent> {
     let n = before.numbers;
-    say::word(b"record");
-    Lent {
+    say::word(rt, "record")?;
+    Ok(Lent {
         numbers: numbers_of(call.x, call.y, n.family),
         size: call.z,
-    }
+    })
 }
 
 impl State {
@@ -137,7 +140,7 @@ impl State {
 }
 
 // Two buffers change places.
-pub fn swap(a: &mut [u8; ROOM], b: &mut [u8; ROOM]) {
+pub fn swap(rt: &impl Print, a: &mut [u8; ROOM], b: &mut [u8; ROOM]) -> io::Result<()> {
     let mut i = 0;
     while i < ROOM {
         let kept = a[i];
@@ -145,7 +148,7 @@ pub fn swap(a: &mut [u8; ROOM], b: &mut [u8; ROOM]) {
         b[i] = kept;
         i += 1;
     }
-    say::word(b"swapped");
+    say::word(rt, "swapped")
 }
 
 // A byte is made another.

@@ -1,0 +1,2 @@
+-- What the test program promises.
+pub mod Parts
