@@ -4,12 +4,8 @@ use lib.ListN.{length-replicate}
 use Rattle.theory.specs.Shape.{slots, blocks, bytes}
 use Rattle.theory.specs.Report.{largest_qbits}
 use Rattle.theory.specs.program.Enough.{enough}
-use Rattle.check_list.proofs.report.input_room.Statement.{statement}
-use Rattle.check_list.proofs.report.input_room.Tie as tie
+use Rattle.check_list.proofs.report.input_room.Goals as goal
 
-returns : tie.Need-returns
+pub returns : goal.returns
 unfolding enough bytes blocks slots largest_qbits
 returns c = length-replicate {A = ℕ} enough 0
-
-pub input-room-spec : {M : Type 1} → statement M
-input-room-spec = tie.close (tie.spec returns)

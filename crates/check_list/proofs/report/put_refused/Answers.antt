@@ -1,0 +1,14 @@
+-- `check_list::report::put_refused`: the line fits. Assumes nothing.
+use native.Mathlib.Omega.{arith}
+use native.Mathlib.Nat.{le_trans}
+use Rattle.theory.specs.Text.{ascii}
+use Rattle.theory.specs.Report.{refused}
+use Rattle.theory.specs.program.Numerals.{headline_short}
+use Rattle.check_list.proofs.report.put_refused.Goals as goal
+
+pub put_headline-requires : goal.put_headline-requires
+put_headline-requires c = le_trans (headline_short _ c.args.number (omega arith) (omega arith)) c.requires
+
+pub returns : goal.returns
+unfolding refused ascii
+returns c = c.put_headline.ensures
