@@ -1,6 +1,9 @@
--- Where `put_lines` stands: the lines of the first k fingerprints are written, and the place is that of the next. Assumes nothing.
-use Rattle.std.proofs.Common.{ℕ, suc, ◌+◌, ◌-◌, ◌*◌, ◌≤◌, ◌<◌, ◌≡◌, sym, ap, ◌∙◌, List, arith, length, take, drop, length-take, length-drop}
+-- How far the lines of a listing are: those of the first k fingerprints are written, and the place is that of the next. Assumes nothing.
+use Rattle.std.proofs.Common.{ℕ, suc, ◌+◌, ◌-◌, ◌*◌, ◌≤◌, ◌<◌, ◌≡◌, List, length, sym, ap, ◌∙◌, arith}
+use lib.ListN.{take, drop, length-take, length-drop}
+use borrow.Rule.Slice.PartMut.{put_mid}
 use Rattle.theory.specs.Text.{lines}
+use Rattle.theory.specs.program.Lines.{lines_length, lines_next}
 use Rattle.layout.specs.declared.numbers.Numbers.{Numbers}
 use Rattle.layout.specs.Records.{SoundOf}
 use Rattle.filter.specs.declared.listing.Place.{Place}
@@ -8,8 +11,6 @@ use Rattle.filter.specs.Places.{place_of, place_left}
 use Rattle.check_list.specs.Written.{Written}
 use Rattle.check_list.specs.Steps.{PutStep}
 use Rattle.check_list.proofs.Filled.{written_as, written_more, written_length, rest}
-use Rattle.theory.specs.program.Lines.{lines_length, lines_next}
-use borrow.Rule.Slice.PartMut.{put_mid}
 
 pub record Going (n : Numbers) (s before after : List ℕ) (p : Place) (at : ℕ) : Type 0 where
   pub sound : SoundOf n s

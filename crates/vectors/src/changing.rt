@@ -12,7 +12,7 @@ fn fresh(rt: &impl Print, buf: &mut [u8], n: Numbers, asked: Numbers) -> io::Res
     let made = layout::fresh::fresh(buf, asked.qbits, asked.rbits, asked.max_qbits, asked.family);
     match made {
         Made::Fresh(after) => {
-            say::word(rt, "fresh")?;
+            say::word(rt, b"fresh")?;
             Ok(after)
         }
         Made::Refused(k) => {
@@ -43,7 +43,7 @@ fn removed_or(removed: Removed, n: Numbers) -> Numbers {
 fn say_inserted(rt: &impl Print, n: Numbers, inserted: Inserted) -> io::Result<Numbers> {
     match inserted {
         Inserted::Counted(m, after) => {
-            say::word(rt, "counted")?;
+            say::word(rt, b"counted")?;
             say::number(rt, m)?;
             Ok(after)
         }
@@ -58,11 +58,11 @@ fn say_inserted(rt: &impl Print, n: Numbers, inserted: Inserted) -> io::Result<N
 fn say_removed(rt: &impl Print, n: Numbers, removed: Removed) -> io::Result<Numbers> {
     match removed {
         Removed::Gone(after) => {
-            say::word(rt, "gone")?;
+            say::word(rt, b"gone")?;
             Ok(after)
         }
         Removed::Absent => {
-            say::word(rt, "absent")?;
+            say::word(rt, b"absent")?;
             Ok(n)
         }
         Removed::Refused(k) => {
@@ -92,7 +92,7 @@ fn many(rt: &impl Print, call: Call, buf: &mut [u8], n: Numbers) -> io::Result<N
         after = one(call.kind, buf, after, hash);
         hash = std::num::wrapping_add_u64(hash, call.y);
     }
-    say::word(rt, "many")?;
+    say::word(rt, b"many")?;
     Ok(after)
 }
 
@@ -117,7 +117,7 @@ fn ask(rt: &impl Print, call: Call, buf: &mut [u8], n: Numbers) -> io::Result<Nu
             writing::writers::remove_fingerprint_quick(buf, n, call.x),
         ),
         _ => {
-            say::word(rt, "byte")?;
+            say::word(rt, b"byte")?;
             Ok(n)
         }
     }

@@ -11,7 +11,7 @@ fn begin(rt: &impl Print, buf: &[u8], n: Numbers, place: Place) -> io::Result<Pl
     let begun = filter::listing::begin(buf, n);
     match begun {
         Begun::At(first) => {
-            say::word(rt, "at")?;
+            say::word(rt, b"at")?;
             say::place(rt, first)?;
             Ok(first)
         }
@@ -26,10 +26,10 @@ fn begin(rt: &impl Print, buf: &[u8], n: Numbers, place: Place) -> io::Result<Pl
 fn say_step(rt: &impl Print, step: Step) -> io::Result<()> {
     match step {
         Step::Fingerprint(f) => {
-            say::word(rt, "fingerprint")?;
+            say::word(rt, b"fingerprint")?;
             say::hex(rt, f, 16)
         }
-        Step::Done => say::word(rt, "done"),
+        Step::Done => say::word(rt, b"done"),
         Step::Refused(k) => say::refused(rt, k),
     }
 }
@@ -51,7 +51,7 @@ fn two(rt: &impl Print, buf: &[u8], n: Numbers, place: Place) -> io::Result<Plac
     let second = two.second;
     let after = two.place;
     say_step(rt, first)?;
-    say::word(rt, " ")?;
+    say::word(rt, b" ")?;
     say_step(rt, second)?;
     say::place(rt, after)?;
     Ok(after)

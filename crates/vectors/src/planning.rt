@@ -25,10 +25,10 @@ fn select(rt: &impl Print, word: u64, n: u64) -> io::Result<()> {
     let found = bits::select::select(word, n);
     match found {
         Nth::At(p) => {
-            say::word(rt, "at")?;
+            say::word(rt, b"at")?;
             say::number(rt, p)
         }
-        Nth::Nothing => say::word(rt, "nothing"),
+        Nth::Nothing => say::word(rt, b"nothing"),
     }
 }
 
@@ -37,7 +37,7 @@ fn needed(rt: &impl Print, capacity: u64) -> io::Result<()> {
     let needed = layout::planning::needed_qbits(capacity);
     match needed {
         Needed::Qbits(q) => {
-            say::word(rt, "qbits")?;
+            say::word(rt, b"qbits")?;
             say::small(rt, q)
         }
         Needed::Refused(k) => say::refused(rt, k),
@@ -46,7 +46,7 @@ fn needed(rt: &impl Print, capacity: u64) -> io::Result<()> {
 
 // What a filter comes to, said.
 fn say_specs(rt: &impl Print, s: FilterSpecs) -> io::Result<()> {
-    say::word(rt, "specs")?;
+    say::word(rt, b"specs")?;
     say::number(rt, s.max_capacity)?;
     say::small(rt, s.fingerprint_bits)?;
     say::number(rt, s.memory_bytes_min)?;
@@ -69,7 +69,7 @@ fn plan(rt: &impl Print, initial: u64, most: u64, pattern: u64) -> io::Result<()
     let planned = layout::planning::plan_resizeable(initial, most, rate_of(pattern));
     match planned {
         Planned::Widths(shape, max_qbits) => {
-            say::word(rt, "widths")?;
+            say::word(rt, b"widths")?;
             say::widths(rt, shape, max_qbits)
         }
         Planned::Refused(k) => say::refused(rt, k),

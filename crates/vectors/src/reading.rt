@@ -11,7 +11,7 @@ use std::io;
 fn check(rt: &impl Print, buf: &[u8], n: Numbers) -> io::Result<()> {
     let verdict = layout::check::check(buf, n);
     match verdict {
-        Verdict::Sound => say::word(rt, "sound"),
+        Verdict::Sound => say::word(rt, b"sound"),
         Verdict::Refused(k) => say::refused(rt, k),
     }
 }
@@ -20,11 +20,11 @@ fn check(rt: &impl Print, buf: &[u8], n: Numbers) -> io::Result<()> {
 fn say_lookup(rt: &impl Print, lookup: Lookup) -> io::Result<()> {
     match lookup {
         Lookup::Held(k) => {
-            say::word(rt, "held")?;
+            say::word(rt, b"held")?;
             say::number(rt, k)
         }
         Lookup::Absent(k) => {
-            say::word(rt, "absent")?;
+            say::word(rt, b"absent")?;
             say::number(rt, k)
         }
         Lookup::Refused(k) => say::refused(rt, k),
@@ -35,7 +35,7 @@ fn say_lookup(rt: &impl Print, lookup: Lookup) -> io::Result<()> {
 fn say_count(rt: &impl Print, counting: Counting) -> io::Result<()> {
     match counting {
         Counting::Copies(m) => {
-            say::word(rt, "copies")?;
+            say::word(rt, b"copies")?;
             say::number(rt, m)
         }
         Counting::Refused(k) => say::refused(rt, k),

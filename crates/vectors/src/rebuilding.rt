@@ -12,7 +12,7 @@ use std::io;
 fn say_rebuilt(rt: &impl Print, n: Numbers, rebuilt: Rebuilt) -> io::Result<Numbers> {
     match rebuilt {
         Rebuilt::Filter(after) => {
-            say::word(rt, "filter")?;
+            say::word(rt, b"filter")?;
             say::record(rt, after)?;
             Ok(after)
         }
@@ -69,7 +69,7 @@ fn say_placed(rt: &impl Print, placed: Placed, state: State) -> io::Result<State
     let dest = state.dest;
     match placed {
         Placed::InOld(m, numbers) => {
-            say::word(rt, "old")?;
+            say::word(rt, b"old")?;
             say::number(rt, m)?;
             say::record(rt, numbers)?;
             Ok(state.with_own(Lent {
@@ -78,7 +78,7 @@ fn say_placed(rt: &impl Print, placed: Placed, state: State) -> io::Result<State
             }))
         }
         Placed::InSpare(m, numbers) => {
-            say::word(rt, "spare")?;
+            say::word(rt, b"spare")?;
             say::number(rt, m)?;
             say::record(rt, numbers)?;
             Ok(state.with_dest(Lent {

@@ -8,8 +8,8 @@ use layout::shape::Shape;
 use std::io;
 
 // The word that a line begins with.
-pub fn word(rt: &impl Print, text: &str) -> io::Result<()> {
-    rt.print(text)
+pub fn word(rt: &impl Print, text: &[u8]) -> io::Result<()> {
+    rt.write_all(text)
 }
 
 // A number in decimal.
@@ -34,7 +34,7 @@ pub fn end(rt: &impl Print) -> io::Result<()> {
 
 // A refusal and its number.
 pub fn refused(rt: &impl Print, k: u8) -> io::Result<()> {
-    word(rt, "refused")?;
+    word(rt, b"refused")?;
     small(rt, k)
 }
 
@@ -69,7 +69,7 @@ pub fn float(rt: &impl Print, x: f64) -> io::Result<()> {
     if x == x {
         hex(rt, f64::to_bits(x), 16)
     } else {
-        word(rt, " nan")
+        word(rt, b" nan")
     }
 }
 

@@ -45,7 +45,7 @@ pub fn part(size: u64, room: &[u8]) -> usize
 // A record by itself, of the family before it: `r` len, widths, size.
 pub fn record(rt: &impl Print, call: Call, before: Lent) -> io::Result<Lent> {
     let n = before.numbers;
-    say::word(rt, "record")?;
+    say::word(rt, b"record")?;
     Ok(Lent {
         numbers: numbers_of(call.x, call.y, n.family),
         size: call.z,
@@ -148,7 +148,7 @@ pub fn swap(rt: &impl Print, a: &mut [u8; ROOM], b: &mut [u8; ROOM]) -> io::Resu
         b[i] = kept;
         i += 1;
     }
-    say::word(rt, "swapped")
+    say::word(rt, b"swapped")
 }
 
 // A byte is made another.

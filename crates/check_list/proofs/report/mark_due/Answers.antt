@@ -1,6 +1,5 @@
 -- `check_list::report::mark_due`: number 13, question by question. Assumes nothing.
-use mathlib.Core.Path.{sym}
-use native.Mathlib.Omega.{arith}
+use Rattle.std.proofs.Common.{sym, arith}
 use Rattle.theory.specs.refusals.ProgramAsks.{mark_short, mark_first, mark_second, mark_none}
 use Rattle.check_list.proofs.report.mark_due.Goals as goal
 

@@ -1,9 +1,9 @@
 -- `check_list::report::numbers_of`: len and the family are the numbers of 8 bytes, the others are a byte each. Assumes nothing.
-use mathlib.Core.Path.{sym, ◌∙◌}
+use Rattle.std.proofs.Common.{sym, ◌∙◌}
 use lib.ListN.{get_or}
 use Rattle.theory.specs.number.Bytes.{le_part}
-use Rattle.layout.specs.Records.{empty_record, with_len}
 use Rattle.theory.specs.Report.{len_of, qbits_of, rbits_of, max_of, family_of}
+use Rattle.layout.specs.Records.{empty_record, with_len}
 use Rattle.check_list.proofs.report.numbers_of.Goals as goal
 
 pub returns : goal.returns

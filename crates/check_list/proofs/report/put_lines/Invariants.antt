@@ -1,5 +1,4 @@
--- `check_list::report::put_lines`: the invariant is that the lines of the first k fingerprints are written, and the place is that of the next.
--- Assumes nothing.
+-- `check_list::report::put_lines`: the lines of the first k fingerprints are written, and the place is that of the next. Assumes nothing.
 use Rattle.check_list.proofs.Going.{Going}
 use Rattle.check_list.proofs.report.put_lines.Given as goal
 

@@ -1,6 +1,5 @@
 -- `check_list::report::put_refused`: the line fits. Assumes nothing.
-use native.Mathlib.Omega.{arith}
-use native.Mathlib.Nat.{le_trans}
+use Rattle.std.proofs.Common.{le_trans, arith}
 use Rattle.theory.specs.Text.{ascii}
 use Rattle.theory.specs.Report.{refused}
 use Rattle.theory.specs.program.Numerals.{headline_short}

@@ -1,4 +1,4 @@
--- `check_list::text::put_decimal` calls itself with all digits but the last.
+-- `check_list::text::put_decimal`, which calls itself with all digits but the last: the measure is the number. Assumes nothing.
 use Rattle.check_list.proofs.text.+put_decimal.Given as goal
 
 abbrev pub decreases-put_decimal : goal.decreases-put_decimal

@@ -1,6 +1,5 @@
 -- `check_list::text::digit`: by the two cases. Assumes nothing.
-use mathlib.Core.Path.{sym}
-use native.Mathlib.Omega.{arith}
+use Rattle.std.proofs.Common.{sym, arith}
 use Rattle.theory.specs.program.Numerals.{digit_low, digit_high}
 use Rattle.check_list.proofs.text.digit.Goals as goal
 

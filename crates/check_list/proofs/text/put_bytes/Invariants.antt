@@ -1,6 +1,5 @@
 -- `check_list::text::put_bytes`: the invariant is that the first i bytes of the text are written. Assumes nothing.
-use Prim.Native.Nat.{◌-◌, ◌≤◌}
-use lib.ListN.{length, take}
+use Rattle.std.proofs.Common.{◌-◌, ◌≤◌, length, take}
 use Rattle.check_list.specs.Written.{Written}
 use Rattle.check_list.proofs.text.put_bytes.Given as goal
 

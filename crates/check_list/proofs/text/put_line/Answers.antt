@@ -1,24 +1,15 @@
--- `check_list::text::put_line`: the invariant is that the first i of the 16 digits are written. Assumes nothing.
-use Prim.Native.Nat.{◌+◌, ◌-◌, ◌*◌, ◌/◌, ◌^◌}
-use mathlib.Core.Path.{◌≡◌, sym}
-use mathlib.Core.List.{[], ◌∷◌, ◌++◌}
-use native.Mathlib.Omega.{arith}
+-- `check_list::text::put_line`: a digit more with each turn, and the newline. Assumes nothing.
+use Rattle.std.proofs.Common.{◌≡◌, ◌+◌, ◌-◌, ◌*◌, ◌/◌, ◌^◌, [], ◌∷◌, ◌++◌, sym, arith}
 use native.Mathlib.Nat.{div-one}
 use native.Mathlib.Numerals.{add-one}
-use lib.ListN.{length-set}
 use Rattle.theory.specs.Text.{ascii, hex, line}
-use Rattle.check_list.proofs.Filled.{written_none, written_as, written_byte, written_length}
 use Rattle.theory.specs.program.Numerals.{hex_next}
+use Rattle.check_list.proofs.Filled.{written_none, written_as, written_byte}
 use Rattle.check_list.proofs.text.put_line.Goals as goal
 
 pub loop-i-init : goal.loop-i-init
 unfolding hex
 loop-i-init c = (omega arith, written_none _)
-
-pub bounds-out-i : goal.bounds-out-i
-bounds-out-i c =
-    let l = c.loop-i in
-    omega (arith, written_length _ _ _ _ l.invariant.1 (omega arith))
 
 pub loop-i-preserved : goal.loop-i-preserved
 loop-i-preserved c =
@@ -26,12 +17,6 @@ loop-i-preserved c =
     let f = c.args.f in
     let e : hex (l.i + 1) (f / 2 ^ (64 - 4 * (l.i + 1))) ≡ hex l.i (f / 2 ^ (64 - 4 * l.i)) ++ (c.digit.result ∷ []) = rw (add-one l.i, c.digit.ensures) (hex_next f l.i (omega arith)) in
     (omega arith, written_as _ _ _ _ (written_byte _ _ _ _ l.invariant.1 c.digit.result (omega arith)) _ (sym e))
-
-pub bounds-out-i-2 : goal.bounds-out-i-2
-bounds-out-i-2 c = omega (arith, written_length _ _ _ _ c.loop-i.invariant.1 (omega arith))
-
-pub shape_of-out : goal.shape_of-out
-shape_of-out c = simp length-set (written_length _ _ _ _ c.loop-i.invariant.1 (omega arith))
 
 pub returns : goal.returns
 unfolding line ascii

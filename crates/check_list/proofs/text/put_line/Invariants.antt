@@ -1,5 +1,5 @@
 -- `check_list::text::put_line`: the invariant is that the first i of the 16 digits are written. Assumes nothing.
-use Prim.Native.Nat.{◌-◌, ◌*◌, ◌/◌, ◌^◌, ◌≤◌}
+use Rattle.std.proofs.Common.{◌-◌, ◌*◌, ◌/◌, ◌^◌, ◌≤◌}
 use Rattle.theory.specs.Text.{hex}
 use Rattle.check_list.specs.Written.{Written}
 use Rattle.check_list.proofs.text.put_line.Given as goal
