@@ -29,10 +29,6 @@ module _ (t a b : List ℕ) (k : ℕ) (w : Written t a b k) where
   pub written_length : k ≤ length a → length b ≡ length a
   written_length h = omega (arith, ap length w.whole, length-append t (drop k a), length-drop k a, w.many)
 
-  -- the text ends within the buffer
-  pub written_fits : k ≤ length b
-  written_fits = omega (arith, ap length w.whole, length-append t (drop k a), w.many)
-
   -- a byte more
   pub written_byte : (x : ℕ) → k < length a → Written (t ++ (x ∷ [])) a (set b k x) (k + 1)
   written_byte x h = record {

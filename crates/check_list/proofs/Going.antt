@@ -10,7 +10,7 @@ use Rattle.filter.specs.declared.listing.Place.{Place}
 use Rattle.filter.specs.Places.{place_of, place_left}
 use Rattle.check_list.specs.Written.{Written}
 use Rattle.check_list.specs.Steps.{PutStep}
-use Rattle.check_list.proofs.Filled.{written_as, written_more, written_length, rest}
+use Rattle.check_list.proofs.Filled.{written_as, written_more, rest}
 
 pub record Going (n : Numbers) (s before after : List ℕ) (p : Place) (at : ℕ) : Type 0 where
   pub sound : SoundOf n s
@@ -26,9 +26,6 @@ module _ (n : Numbers) (s before after : List ℕ) (p : Place) (at : ℕ) (g : G
 
   pub passed : at ≡ 17 * g.k
   passed = omega (arith, g.text.many, lines_length (take g.k g.sound.held), length-take g.k g.sound.held, g.some)
-
-  pub same : length after ≡ length before
-  same = written_length _ _ _ _ g.text (omega (arith, passed, g.some, g.room))
 
   -- before the last line there is room for one more
   pub more : 0 < p.remaining → at + 17 ≤ length before

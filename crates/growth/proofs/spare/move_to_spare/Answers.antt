@@ -1,15 +1,6 @@
 -- `growth::spare::move_to_spare`: growth's refusal, or the insert into the grown spare. Assumes nothing.
-use Rattle.growth.specs.declared.rebuild.Rebuilt.{Rebuilt}
-use Rattle.growth.specs.Rebuilding.{Grows}
 use Rattle.growth.specs.Spare.{moves_refused, moves_grown}
 use Rattle.growth.proofs.spare.move_to_spare.Goals as goal
-use Rattle.growth.proofs.spare.move_to_spare.Goals.{After-slice_known-2-1}
-
--- what growth promised, of the answer z
-abbrev Grew : After-slice_known-2-1 → Rebuilt → Type 0
-Grew c z =
-    let a = c.args in
-    Grows a.n a.buf.now a.spare.now z c.rebuild_grown-rebuilt.new.dest
 
 pub returns-in-Filter : goal.returns-in-Filter
 returns-in-Filter c =
