@@ -6,7 +6,7 @@ use crate::listing::{Place, Step, step_from};
 use layout::numbers::Numbers;
 
 // A listing that has its buffer with it: the buffer, its numbers and the place of the next fingerprint.
-#[derive(Drop)]
+#[derive(Clone, Copy)]
 pub struct Reader<'a> {
     pub buf: &'a [u8],
     pub numbers: Numbers,

@@ -1,5 +1,5 @@
--- The examples that docs/RULES.md, "Examples at the edges", marks as proved, and inputs that the check program refuses, shown from the definitions: one table, and one claim over it.
--- A new kind of example is a constructor of `Example` with a clause of `holds`; a new example is a row of `table`, with its proof in `examples`.
+-- The examples that docs/RULES.md, "Examples at the edges", marks as proved, and inputs that the check program refuses, shown from the definitions: one table, and one claim over it, `AllHold table`.
+-- A new kind of example is a constructor of `Example` with a clause of `holds`; a new example is a row of `table`, with its proof in `examples` of proofs/Examples.
 use Rattle.std.specs.Prelude.{ℕ, zero, suc, ◌+◌, ◌-◌, ◌*◌, ◌^◌, ◌≡◌, List, [], ◌∷◌, ◌++◌, length, get_or, take, drop, replicate, set}
 use Prim.Native.String.{String}
 use Rattle.theory.specs.Shape.{slots, capacity, blocks, bytes}

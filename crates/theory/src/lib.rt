@@ -1,2 +1,2 @@
-// Definitions and laws alone: everything is in specs/.
+// Definitions and laws alone: everything is in specs/ and proofs/.
 #![tactic(auto)]

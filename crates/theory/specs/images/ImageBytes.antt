@@ -1,4 +1,4 @@
--- The bytes of the image: how many they are, and that two holdings with one image are equal. Assumes nothing.
+-- The bytes of the image: how many they are, and that the last eight are zero. That two holdings with one image are equal is in proofs/images/ImageViews. Assumes nothing.
 use Rattle.std.specs.Prelude.{ℕ, ◌+◌, ◌*◌, ◌^◌, ◌≡◌, List, ◌++◌, length}
 use Rattle.std.proofs.Common.{ap, ◌∙◌, arith, length-append}
 use Rattle.theory.specs.number.Bytes.{length_to_bytes, le, to_bytes, Bytes, bytes_to_bytes, append_high, bytes_append}

@@ -1,5 +1,4 @@
--- Every list of at most capacity with qbits up to the limit has a file, and for that file the program writes the list: an impostor that always refuses fails.
--- Assumes nothing.
+-- A list's file, and what the program reads in it. That it writes the list for every such file is in proofs/program/Files. Assumes nothing.
 use Rattle.std.specs.Prelude.{ℕ, ◌^◌, ◌<◌, ◌≡◌, List, ◌∷◌, ◌++◌}
 use Rattle.std.proofs.Math.Path.{refl}
 use Rattle.std.proofs.Common.{arith}

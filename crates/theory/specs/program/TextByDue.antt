@@ -1,4 +1,4 @@
--- The text, by what is due: 13, 1 and 14 are refused first, and then the text is that of a checked call. Assumes nothing.
+-- The text, by what is due: 13, 1 and 14 are refused first. That the text is then that of a checked call is in proofs/program/TextByDue. Assumes nothing.
 use Rattle.std.specs.Prelude.{ℕ, zero, suc, ◌-◌, ◌<◌, ◌≡◌, List, length, take, drop}
 use Rattle.std.proofs.Math.Path.{refl, sym, ap}
 use Rattle.std.proofs.Common.{◌∙◌, arith, length-drop, take_all}

@@ -1,5 +1,5 @@
--- What the promises pin down: a checked call has one outcome at most; every holding of at most capacity is that of a sound filter; two sound filters
--- are equal in len and bytes exactly if they hold every fingerprint equally often. Assumes nothing.
+-- What the promises pin down: a checked call has one outcome at most; every holding of at most capacity is that of a sound filter. That two sound
+-- filters are equal exactly if they hold the same is in proofs/refusals/Demands. Assumes nothing.
 use Rattle.std.specs.Prelude.{ℕ, ◌^◌, ◌≤◌, ◌<◌, ◌≡◌, refl, ◌⊎◌, List, length}
 use Rattle.std.proofs.Common.{inl, inr, arith, eq-zero-or-pos}
 use Rattle.theory.specs.Holding.{Holding}

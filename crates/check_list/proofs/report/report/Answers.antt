@@ -28,14 +28,6 @@ slice_bounds-buf-start c =
     let none : header_due c.args.input.now ≡ 0 = sym c.header_due-due.ensures ∙ omega arith in
     omega (arith, (none_header _ none).0)
 
-pub put_sound-requires : goal.put_sound-requires
-unfolding largest_qbits slots
-put_sound-requires c =
-    let s = c.args.input.now in
-    let none : header_due s ≡ 0 = sym c.header_due-due.ensures ∙ omega arith in
-    let r = begun_ready c.numbers_of-n.result _ _ c.in-At.ensures in
-    (r, omega (arith, text_few s _ _ c.numbers_of-n.ensures (part s) none r.sound))
-
 pub returns-in-Refused : goal.returns-in-Refused
 returns-in-Refused c =
     let s = c.args.input.now in
@@ -48,3 +40,11 @@ returns-in-At c =
     let none : header_due s ≡ 0 = sym c.header_due-due.ensures ∙ omega arith in
     let h = (begun_ready c.numbers_of-n.result _ _ c.in-At.ensures).sound in
     written_as _ _ _ _ (c.put_sound.ensures h) _ (sym (text_sound s _ _ c.numbers_of-n.ensures (part s) none h))
+
+pub put_sound-requires : goal.put_sound-requires
+unfolding largest_qbits slots
+put_sound-requires c =
+    let s = c.args.input.now in
+    let none : header_due s ≡ 0 = sym c.header_due-due.ensures ∙ omega arith in
+    let r = begun_ready c.numbers_of-n.result _ _ c.in-At.ensures in
+    (r, omega (arith, text_few s _ _ c.numbers_of-n.ensures (part s) none r.sound))
