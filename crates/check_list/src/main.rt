@@ -10,7 +10,7 @@ use std::io::Read;
 mod report;
 mod text;
 
-// Reads until the buffer is full, the input ends or a read fails, and answers how many bytes stand at its start.
+// As many bytes as come before the input's end or a read that fails, and have room: they stand at the start of the buffer, and this is how many.
 fn read_full(input: &mut impl Read, buffer: &mut [u8]) -> usize
     ensures { result ≤ length buffer.new }
 {

@@ -1,6 +1,5 @@
 // What the calls work on: three buffers, of which a part is lent, with a record each, and a place in the listing.
 ghost use Rattle.std.specs.Prelude.{◌≡◌, ◌%◌, min, length};
-ghost use Rattle.vectors.specs.Parts.{IsPrefixLen};
 
 use crate::script::Call;
 use crate::{ROOM, say};
@@ -36,8 +35,7 @@ pub fn numbers_of(len: u64, widths: u64, family: u64) -> Numbers {
 
 // As many bytes as are asked for and there.
 pub fn part(size: u64, room: &[u8]) -> usize
-    ensures in_bounds { IsPrefixLen result room.now }
-    ensures value { result ≡ min (size % 65536) (length room.now) }
+    ensures { result ≡ min (size % 65536) (length room.now) }
 {
     ((size % 65536) as usize).min(room.len())
 }

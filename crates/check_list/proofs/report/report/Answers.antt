@@ -1,5 +1,5 @@
 -- `check_list::report::report`: 13, 1 and 14 first; then what a listing's beginning answers decides. Assumes nothing.
-use Rattle.std.proofs.Common.{◌≡◌, sym, ap, ◌∙◌, arith}
+use Rattle.std.proofs.Common.{ℕ, ◌≤◌, ◌≡◌, sym, ap, ◌∙◌, List, arith}
 use Rattle.theory.specs.Shape.{slots}
 use Rattle.theory.specs.Report.{header_due, largest_qbits, refused}
 use Rattle.theory.specs.refusals.ProgramAsks.{none_header}
@@ -8,6 +8,10 @@ use Rattle.check_list.specs.Beginning.{text_refused, text_sound, text_few, begun
 use Rattle.check_list.proofs.Filled.{written_as}
 use Rattle.check_list.proofs.report.report.Goals as goal
 
+-- none of 13, 1 and 14 is due
+none : (s : List ℕ) (due : ℕ) → due ≡ header_due s → due ≤ 0 → header_due s ≡ 0
+none s due is low = omega (arith, is, low)
+
 pub returns-then-due-gt0 : goal.returns-then-due-gt0
 returns-then-due-gt0 c =
     let h = c.header_due-due.ensures in
@@ -15,36 +19,30 @@ returns-then-due-gt0 c =
 
 pub numbers_of-n-requires : goal.numbers_of-n-requires
 numbers_of-n-requires c =
-    let none : header_due c.args.input.now ≡ 0 = sym c.header_due-due.ensures ∙ omega arith in
-    (none_header _ none).0
+    (none_header _ (none _ _ c.header_due-due.ensures c.if-due-gt0.false)).0
 
 pub slice_bounds-buf-count : goal.slice_bounds-buf-count
 slice_bounds-buf-count c =
-    let none : header_due c.args.input.now ≡ 0 = sym c.header_due-due.ensures ∙ omega arith in
-    omega (arith, (none_header _ none).0)
+    omega (arith, (none_header _ (none _ _ c.header_due-due.ensures c.if-due-gt0.false)).0)
 
 pub slice_bounds-buf-start : goal.slice_bounds-buf-start
 slice_bounds-buf-start c =
-    let none : header_due c.args.input.now ≡ 0 = sym c.header_due-due.ensures ∙ omega arith in
-    omega (arith, (none_header _ none).0)
+    omega (arith, (none_header _ (none _ _ c.header_due-due.ensures c.if-due-gt0.false)).0)
 
 pub returns-in-Refused : goal.returns-in-Refused
 returns-in-Refused c =
     let s = c.args.input.now in
-    let none : header_due s ≡ 0 = sym c.header_due-due.ensures ∙ omega arith in
-    written_as _ _ _ _ c.put_refused-in-Refused.ensures _ (sym (text_refused s _ _ c.numbers_of-n.ensures (part s) none _ c.in-Refused.ensures))
+    written_as _ _ _ _ c.put_refused-in-Refused.ensures _ (sym (text_refused s _ _ c.numbers_of-n.ensures (part s) (none _ _ c.header_due-due.ensures c.if-due-gt0.false) _ c.in-Refused.ensures))
 
 pub returns-in-At : goal.returns-in-At
 returns-in-At c =
     let s = c.args.input.now in
-    let none : header_due s ≡ 0 = sym c.header_due-due.ensures ∙ omega arith in
     let h = (begun_ready c.numbers_of-n.result _ _ c.in-At.ensures).sound in
-    written_as _ _ _ _ (c.put_sound.ensures h) _ (sym (text_sound s _ _ c.numbers_of-n.ensures (part s) none h))
+    written_as _ _ _ _ (c.put_sound.ensures h) _ (sym (text_sound s _ _ c.numbers_of-n.ensures (part s) (none _ _ c.header_due-due.ensures c.if-due-gt0.false) h))
 
 pub put_sound-requires : goal.put_sound-requires
 unfolding largest_qbits slots
 put_sound-requires c =
     let s = c.args.input.now in
-    let none : header_due s ≡ 0 = sym c.header_due-due.ensures ∙ omega arith in
     let r = begun_ready c.numbers_of-n.result _ _ c.in-At.ensures in
-    (r, omega (arith, text_few s _ _ c.numbers_of-n.ensures (part s) none r.sound))
+    (r, omega (arith, text_few s _ _ c.numbers_of-n.ensures (part s) (none _ _ c.header_due-due.ensures c.if-due-gt0.false) r.sound))

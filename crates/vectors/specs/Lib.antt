@@ -1,2 +1,0 @@
--- What the test program promises.
-pub mod Parts
