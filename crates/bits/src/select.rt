@@ -5,20 +5,6 @@ ghost use Rattle.bits.specs.Select.{Selected, Cleared};
 
 use crate::count::ones;
 
-// Where the n-th one of a word stands; or it has no n-th one.
-#[derive(Clone, Copy)]
-pub enum Nth {
-    At(u64),
-    Nothing,
-}
-
-// What a walk looks for, and where it stands; or there is none.
-#[derive(Clone, Copy)]
-pub enum Found {
-    At(u64),
-    Nothing,
-}
-
 // y without its lowest one if j < n, else y. The compiler makes no jump of it, so none is mispredicted.
 fn clear_step(y: u64, j: u64, n: u64) -> u64
     ensures { Cleared y (min 1 (n - j)) result }
@@ -42,11 +28,11 @@ fn clear_few(x: u64, n: u64) -> u64
 }
 
 // The n-th one of x, counted from 0, for every n: the n ones before it are cleared, lowest first, four at a time.
-pub fn select(x: u64, n: u64) -> Nth
+pub fn select(x: u64, n: u64) -> Option<u64>
     ensures { Selected x n result }
 {
     if ones(x) <= n {
-        return Nth::Nothing;
+        return None;
     }
     let mut y = x;
     let mut left = n;
@@ -54,17 +40,17 @@ pub fn select(x: u64, n: u64) -> Nth
         y = clear_few(y, 4);
         left -= 4;
     }
-    Nth::At(u64::trailing_zeros(clear_few(y, left)) as u64)
+    Some(u64::trailing_zeros(clear_few(y, left)) as u64)
 }
 
 // The lowest one of x at digit i or above: the zeros below it in x shifted down are counted by one instruction.
-pub fn lowest_from(x: u64, i: u64) -> Found
+pub fn lowest_from(x: u64, i: u64) -> Option<u64>
     requires { i < 64 }
     ensures { LowestFrom x i result }
 {
     let high = x >> i;
     if high == 0 {
-        return Found::Nothing;
+        return None;
     }
-    Found::At(i + (u64::trailing_zeros(high) as u64))
+    Some(i + (u64::trailing_zeros(high) as u64))
 }
