@@ -5,6 +5,7 @@ pub mod Outcomes
 pub mod Pinned
 pub mod Plans
 pub mod Records
+pub mod Refusals
 pub mod Shapes
 pub mod Verdicts
 pub mod Walk

@@ -9,17 +9,11 @@ ghost use Rattle.layout.specs.Verdicts.{Answered, Judged, JudgedBoth};
 
 use crate::check::step::Cursor;
 use crate::numbers::{Numbers, number_due};
+use crate::refusal::Refusal;
 use crate::shape::Shape;
 
 mod flag;
 pub mod step;
-
-// Sound; or refused with a number.
-#[derive(Clone, Copy)]
-pub enum Verdict {
-    Sound,
-    Refused(u8),
-}
 
 // As many blocks as the budget says, or as are left.
 fn go_on(buf: &[u8], shape: Shape, budget: u64, c: Cursor) -> Cursor
@@ -39,45 +33,39 @@ fn go_on(buf: &[u8], shape: Shape, budget: u64, c: Cursor) -> Cursor
 }
 
 // What the cursor says after two rounds.
-fn answer(shape: Shape, len: u64, c: Cursor) -> Verdict
+fn answer(shape: Shape, len: u64, c: Cursor) -> Result<(), Refusal>
     requires { Widths shape.qbits shape.rbits }
     ensures { Answered (blocks shape.qbits) len (cur c) result }
 {
     if c.passed != 2 * shape.blocks() {
-        return Verdict::Refused(6);
+        return Err(Refusal::NotSound);
     }
     if 0 < c.bad {
-        return Verdict::Refused(6);
+        return Err(Refusal::NotSound);
     }
     if c.pending != c.owed {
-        return Verdict::Refused(6);
+        return Err(Refusal::NotSound);
     }
     if c.used != len {
-        return Verdict::Refused(6);
+        return Err(Refusal::NotSound);
     }
-    Verdict::Sound
+    Ok(())
 }
 
 // Sound, or the lowest of numbers 1 to 6 that is due.
-pub fn check(buf: &[u8], n: Numbers) -> Verdict
+pub fn check(buf: &[u8], n: Numbers) -> Result<(), Refusal>
     ensures { Judged n buf.now result }
 {
-    let due = number_due(buf.len(), n);
-    if 0 < due {
-        return Verdict::Refused(due);
-    }
+    number_due(buf.len(), n)?;
     let shape = n.shape();
     let c = go_on(buf, shape, 2 * shape.blocks(), Cursor::begin());
     answer(shape, n.len, c)
 }
 
 // Both filters sound, or the lowest number that is due of the first, or of the second.
-pub fn check_both(buf: &[u8], n: Numbers, other: &[u8], m: Numbers) -> Verdict
+pub fn check_both(buf: &[u8], n: Numbers, other: &[u8], m: Numbers) -> Result<(), Refusal>
     ensures { JudgedBoth n buf.now m other.now result }
 {
-    let verdict = check(buf, n);
-    if let Verdict::Refused(k) = verdict {
-        return Verdict::Refused(k);
-    }
+    check(buf, n)?;
     check(other, m)
 }

@@ -3,14 +3,8 @@ ghost use Rattle.std.specs.Prelude.{◌≡◌, length, replicate};
 ghost use Rattle.layout.specs.Fresh.{MadeAs};
 
 use crate::numbers::{Numbers, max_due};
-use crate::shape::{Shape, Shaped};
-
-// The record of a fresh filter; or refused.
-#[derive(Clone, Copy)]
-pub enum Made {
-    Fresh(Numbers),
-    Refused(u8),
-}
+use crate::refusal::Refusal;
+use crate::shape::Shape;
 
 // All bytes zero.
 pub fn clear(buf: &mut [u8])
@@ -24,18 +18,20 @@ pub fn clear(buf: &mut [u8])
 }
 
 // An empty filter of these widths and this family in the buffer; or number 1, 4, then 12, and the buffer as it was.
-pub fn fresh(buf: &mut [u8], qbits: u8, rbits: u8, max_qbits: u8, family: u64) -> Made
+pub fn fresh(
+    buf: &mut [u8],
+    qbits: u8,
+    rbits: u8,
+    max_qbits: u8,
+    family: u64,
+) -> Result<Numbers, Refusal>
     ensures { MadeAs buf.old qbits rbits max_qbits family result buf.new }
 {
-    let Shaped::Of(shape) = Shape::new(qbits, rbits) else {
-        return Made::Refused(1);
-    };
-    if 0 < max_due(shape, max_qbits) {
-        return Made::Refused(4);
-    }
+    let shape = Shape::new(qbits, rbits)?;
+    max_due(shape, max_qbits)?;
     if buf.len() != shape.buffer_len() {
-        return Made::Refused(12);
+        return Err(Refusal::DestinationLength);
     }
     clear(buf);
-    Made::Fresh(Numbers::empty(qbits, rbits, max_qbits, family))
+    Ok(Numbers::empty(qbits, rbits, max_qbits, family))
 }

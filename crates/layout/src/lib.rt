@@ -5,5 +5,6 @@ pub mod check;
 pub mod fresh;
 pub mod numbers;
 pub mod planning;
+pub mod refusal;
 pub mod shape;
 pub mod slot;

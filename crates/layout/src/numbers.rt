@@ -2,9 +2,11 @@
 ghost use Rattle.std.specs.Prelude.{◌≡◌};
 ghost use Rattle.theory.specs.Refusal.{max_due, due_of, due};
 ghost use Rattle.theory.specs.Shape.{Widths};
+ghost use Rattle.layout.specs.Refusals.{Asked};
 ghost use Rattle.layout.specs.Records.{empty_record, shape_of, with_shape, with_len};
 
-use crate::shape::{Shape, Shaped};
+use crate::refusal::Refusal;
+use crate::shape::Shape;
 
 // max_qbits is 0 for none; the family says which hash made the fingerprints.
 #[repr(C)]
@@ -62,53 +64,49 @@ impl Numbers {
     }
 }
 
-// Number 4, or 0.
-pub fn max_due(shape: Shape, max_qbits: u8) -> u8
+// Is number 4 due?
+pub fn max_due(shape: Shape, max_qbits: u8) -> Result<(), Refusal>
     requires { Widths shape.qbits shape.rbits }
-    ensures { result ≡ max_due shape.qbits shape.rbits max_qbits }
+    ensures { Asked (max_due shape.qbits shape.rbits max_qbits) result }
 {
     if max_qbits == 0 {
-        return 0;
+        return Ok(());
     }
     if max_qbits < shape.qbits {
-        return 4;
+        return Err(Refusal::MaxQbits);
     }
     if Shape::MAX_QBITS < max_qbits {
-        return 4;
+        return Err(Refusal::MaxQbits);
     }
     if shape.qbits + shape.rbits - 1 < max_qbits {
-        return 4;
+        return Err(Refusal::MaxQbits);
     }
-    0
+    Ok(())
 }
 
-// The lowest of numbers 2 to 5 that is due, or 0. Above capacity, fewer slots are free than a twentieth of all, rounded down: told without a division.
-fn due_of(shape: Shape, size: usize, len: u64, max_qbits: u8) -> u8
+// The lowest of numbers 2 to 5 that is due. Above capacity, fewer slots are free than a twentieth of all, rounded down: told without a division.
+fn due_of(shape: Shape, size: usize, len: u64, max_qbits: u8) -> Result<(), Refusal>
     requires { Widths shape.qbits shape.rbits }
-    ensures { result ≡ due_of shape.qbits shape.rbits len max_qbits size }
+    ensures { Asked (due_of shape.qbits shape.rbits len max_qbits size) result }
 {
     if size != shape.buffer_len() {
-        return 2;
+        return Err(Refusal::BufferLength);
     }
     let slots = shape.slots();
     if slots < len {
-        return 3;
+        return Err(Refusal::TooMany);
     }
-    if 0 < max_due(shape, max_qbits) {
-        return 4;
-    }
+    max_due(shape, max_qbits)?;
     if 20 * (slots - len + 1) <= slots {
-        return 5;
+        return Err(Refusal::TooFull);
     }
-    0
+    Ok(())
 }
 
-// The lowest of numbers 1 to 5 that is due for a buffer of this length, or 0.
-pub fn number_due(size: usize, n: Numbers) -> u8
-    ensures { result ≡ due n.qbits n.rbits n.len n.max_qbits size }
+// The lowest of numbers 1 to 5 that is due for a buffer of this length.
+pub fn number_due(size: usize, n: Numbers) -> Result<(), Refusal>
+    ensures { Asked (due n.qbits n.rbits n.len n.max_qbits size) result }
 {
-    let Shaped::Of(shape) = Shape::new(n.qbits, n.rbits) else {
-        return 1;
-    };
+    let shape = Shape::new(n.qbits, n.rbits)?;
     due_of(shape, size, n.len, n.max_qbits)
 }

@@ -4,17 +4,11 @@ ghost use Rattle.theory.specs.Shape.{capacity, Widths};
 ghost use Rattle.theory.specs.Planning.{needed_qbits, rbits_for, half_pow, per_item};
 ghost use Rattle.layout.specs.Plans.{NeededAs, SpecsOf, SpecifiedAs, PlannedAs};
 
+use crate::refusal::Refusal;
 use crate::shape::Shape;
 
 // The capacity of 2 ^ 59 slots.
 pub const MAX_CAPACITY: u64 = 547637714688252314;
-
-// The qbits that a capacity needs; or refused.
-#[derive(Clone, Copy)]
-pub enum Needed {
-    Qbits(u8),
-    Refused(u8),
-}
 
 // What a filter for a capacity and a rate comes to.
 #[derive(Clone, Copy)]
@@ -25,20 +19,6 @@ pub struct FilterSpecs {
     pub memory_bytes_min: u64,
     pub memory_bytes_max: u64,
     pub fingerprint_bits: u8,
-}
-
-// What a filter comes to; or refused.
-#[derive(Clone, Copy)]
-pub enum Specified {
-    Specs(FilterSpecs),
-    Refused(u8),
-}
-
-// The shape that a plan comes to, and max_qbits; or refused.
-#[derive(Clone, Copy)]
-pub enum Planned {
-    Widths(Shape, u8),
-    Refused(u8),
 }
 
 // The capacity, which hangs on qbits alone: any rbits that is allowed serves.
@@ -66,13 +46,13 @@ fn width_for(capacity: u64) -> u8
 }
 
 // The width of the slots that a capacity needs, or number 10.
-pub fn needed_qbits(capacity: u64) -> Needed
+pub fn needed_qbits(capacity: u64) -> Result<u8, Refusal>
     ensures { NeededAs capacity result }
 {
     if MAX_CAPACITY < capacity {
-        return Needed::Refused(10);
+        return Err(Refusal::CapacityTooLarge);
     }
-    Needed::Qbits(width_for(capacity))
+    Ok(width_for(capacity))
 }
 
 // The first k from 1 to 64 for which 2 ^ -k is not above the rate. What is not a number is below nothing.
@@ -135,17 +115,15 @@ fn specs_of(qbits: u8, rbits: u8) -> FilterSpecs
 }
 
 // What a filter for this capacity and rate comes to; or number 10, then 9.
-pub fn filter_specs(capacity: u64, rate: f64) -> Specified
+pub fn filter_specs(capacity: u64, rate: f64) -> Result<FilterSpecs, Refusal>
     ensures { SpecifiedAs capacity rate result }
 {
-    let Needed::Qbits(qbits) = needed_qbits(capacity) else {
-        return Specified::Refused(10);
-    };
+    let qbits = needed_qbits(capacity)?;
     let rbits = rbits_for(rate);
     if 64 < qbits + rbits {
-        return Specified::Refused(9);
+        return Err(Refusal::TooWide);
     }
-    Specified::Specs(specs_of(qbits, rbits))
+    Ok(specs_of(qbits, rbits))
 }
 
 // 0, for none, where there is nothing to grow.
@@ -156,19 +134,17 @@ fn max_for(qbits: u8, most: u8) -> u8
 }
 
 // The widths of a filter that starts with room for one capacity and can grow to another, which the rate is for; or number 11, 10, then 9.
-pub fn plan_resizeable(initial: u64, most: u64, rate: f64) -> Planned
+pub fn plan_resizeable(initial: u64, most: u64, rate: f64) -> Result<(Shape, u8), Refusal>
     ensures { PlannedAs initial most rate result }
 {
     if most < initial {
-        return Planned::Refused(11);
+        return Err(Refusal::MaximumBelowInitial);
     }
-    let Needed::Qbits(widest) = needed_qbits(most) else {
-        return Planned::Refused(10);
-    };
+    let widest = needed_qbits(most)?;
     let qbits = width_for(initial);
     let rbits = rbits_for(rate) + (widest - qbits);
     if 64 < qbits + rbits {
-        return Planned::Refused(9);
+        return Err(Refusal::TooWide);
     }
-    Planned::Widths(Shape { qbits, rbits }, max_for(qbits, widest))
+    Ok((Shape { qbits, rbits }, max_for(qbits, widest)))
 }

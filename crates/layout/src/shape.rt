@@ -3,18 +3,13 @@ ghost use Rattle.std.specs.Prelude.{◌≡◌, ◌+◌, ◌*◌, ◌^◌, ◌<�
 ghost use Rattle.theory.specs.Shape.{slots, capacity, blocks, bytes, Widths};
 ghost use Rattle.layout.specs.Shapes.{ShapedAs};
 
+use crate::refusal::Refusal;
+
 // The widths of a filter.
 #[derive(Clone, Copy)]
 pub struct Shape {
     pub qbits: u8,
     pub rbits: u8,
-}
-
-// A shape; or refused.
-#[derive(Clone, Copy)]
-pub enum Shaped {
-    Of(Shape),
-    Refused(u8),
 }
 
 impl Shape {
@@ -25,22 +20,22 @@ impl Shape {
     pub const MAX_QBITS: u8 = 59;
 
     // The shape of these widths, or number 1.
-    pub fn new(qbits: u8, rbits: u8) -> Shaped
+    pub fn new(qbits: u8, rbits: u8) -> Result<Shape, Refusal>
         ensures { ShapedAs qbits rbits result }
     {
         if qbits < Self::MIN_QBITS {
-            return Shaped::Refused(1);
+            return Err(Refusal::Widths);
         }
         if Self::MAX_QBITS < qbits {
-            return Shaped::Refused(1);
+            return Err(Refusal::Widths);
         }
         if rbits < 1 {
-            return Shaped::Refused(1);
+            return Err(Refusal::Widths);
         }
         if 64 - qbits < rbits {
-            return Shaped::Refused(1);
+            return Err(Refusal::Widths);
         }
-        Shaped::Of(Shape { qbits, rbits })
+        Ok(Shape { qbits, rbits })
     }
 
     // How many slots there are.
