@@ -94,7 +94,7 @@ pub fn get_remainder(buf: &[u8], shape: Shape, s: u64) -> u64
     requires { (Whole shape (length buf.now)) × (s < slots shape.qbits) }
     ensures { (result ≡ cell_at shape.rbits 17 shape.rbits (le buf.now) s) × (result < 2 ^ shape.rbits) }
 {
-    get_cell(buf, shape, REMAINDERS, shape.rbits as u64, s)
+    get_cell(buf, shape, REMAINDERS, u64::from(shape.rbits), s)
 }
 
 // The occupied bit of slot s becomes v.

@@ -59,8 +59,7 @@ fn first(occupieds: u64, runends: u64, c: Cursor) -> Cursor
         passed: c.passed + 1,
         owed,
         pending,
-        used: c.used,
-        bad: c.bad,
+        ..c
     }
 }
 
@@ -144,10 +143,10 @@ fn second(buf: &[u8], shape: Shape, b: u64, c: Cursor) -> Cursor
     }
     Cursor {
         passed: c.passed + 1,
-        owed: c.owed,
         pending,
         used,
         bad,
+        ..c
     }
 }
 
