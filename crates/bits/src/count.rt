@@ -8,7 +8,7 @@ use crate::bit::pow2;
 pub fn ones(x: u64) -> u64
     ensures { (result ≡ rank x 64) × (result ≤ 64) }
 {
-    u64::count_ones(x) as u64
+    u64::from(x.count_ones())
 }
 
 // How many of the digits of x below i are ones.

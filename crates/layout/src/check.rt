@@ -21,13 +21,11 @@ fn go_on(buf: &[u8], shape: Shape, budget: u64, c: Cursor) -> Cursor
     ensures { (cur result ≡ steps_on shape.qbits shape.rbits buf.now budget (cur c)) × (Fits (2 * blocks shape.qbits) result) }
 {
     let mut at = c;
-    let mut k = 0;
-    while k < budget {
+    for _ in 0..budget {
         if 2 * shape.blocks() <= at.passed {
             return at;
         }
         at = step::step(buf, shape, at);
-        k += 1;
     }
     at
 }

@@ -41,12 +41,28 @@ pub fn set_cell(buf: &mut [u8], shape: Shape, d: usize, w: u64, s: u64, v: u64)
     bits::remainder::set_remainder(buf, block_start(shape, s / 64) + d, s % 64, w, v);
 }
 
+// The 64 bits of block b in the area from byte d on.
+fn bits_of(buf: &[u8], shape: Shape, d: usize, b: u64) -> u64
+    requires { (Whole shape (length buf.now)) × (Area shape.rbits d 1) × (b < blocks shape.qbits) }
+    ensures { result ≡ word_at shape.rbits d (le buf.now) b }
+{
+    bits::word::read64(buf, block_start(shape, b) + d)
+}
+
+// The bit of slot s in the area from byte d on, 0 or 1: with one load and one test, which `get_cell` for one digit is not.
+fn bit_of(buf: &[u8], shape: Shape, d: usize, s: u64) -> u64
+    requires { (Whole shape (length buf.now)) × (Area shape.rbits d 1) × (s < slots shape.qbits) }
+    ensures { (result ≡ cell_at shape.rbits d 1 (le buf.now) s) × (result < 2) }
+{
+    bits::bit::bit(bits_of(buf, shape, d, s / 64), s % 64)
+}
+
 // The 64 occupied bits of block b.
 pub fn occupieds(buf: &[u8], shape: Shape, b: u64) -> u64
     requires { (Whole shape (length buf.now)) × (b < blocks shape.qbits) }
     ensures { result ≡ word_at shape.rbits 1 (le buf.now) b }
 {
-    bits::word::read64(buf, block_start(shape, b) + OCCUPIEDS)
+    bits_of(buf, shape, OCCUPIEDS, b)
 }
 
 // The 64 runend bits of block b.
@@ -54,7 +70,7 @@ pub fn runends(buf: &[u8], shape: Shape, b: u64) -> u64
     requires { (Whole shape (length buf.now)) × (b < blocks shape.qbits) }
     ensures { result ≡ word_at shape.rbits 9 (le buf.now) b }
 {
-    bits::word::read64(buf, block_start(shape, b) + RUNENDS)
+    bits_of(buf, shape, RUNENDS, b)
 }
 
 // The occupied bit of slot s, 0 or 1.
@@ -62,7 +78,7 @@ pub fn is_occupied(buf: &[u8], shape: Shape, s: u64) -> u64
     requires { (Whole shape (length buf.now)) × (s < slots shape.qbits) }
     ensures { (result ≡ cell_at shape.rbits 1 1 (le buf.now) s) × (result < 2) }
 {
-    bits::bit::bit(occupieds(buf, shape, s / 64), s % 64)
+    bit_of(buf, shape, OCCUPIEDS, s)
 }
 
 // The runend bit of slot s, 0 or 1.
@@ -70,7 +86,7 @@ pub fn is_runend(buf: &[u8], shape: Shape, s: u64) -> u64
     requires { (Whole shape (length buf.now)) × (s < slots shape.qbits) }
     ensures { (result ≡ cell_at shape.rbits 9 1 (le buf.now) s) × (result < 2) }
 {
-    bits::bit::bit(runends(buf, shape, s / 64), s % 64)
+    bit_of(buf, shape, RUNENDS, s)
 }
 
 // The remainder in slot s.
@@ -78,7 +94,7 @@ pub fn get_remainder(buf: &[u8], shape: Shape, s: u64) -> u64
     requires { (Whole shape (length buf.now)) × (s < slots shape.qbits) }
     ensures { (result ≡ cell_at shape.rbits 17 shape.rbits (le buf.now) s) × (result < 2 ^ shape.rbits) }
 {
-    get_cell(buf, shape, REMAINDERS, shape.rbits as u64, s)
+    get_cell(buf, shape, REMAINDERS, u64::from(shape.rbits), s)
 }
 
 // The occupied bit of slot s becomes v.

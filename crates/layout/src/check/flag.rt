@@ -9,17 +9,14 @@ use bits::compare::below;
 pub fn either(a: u64, b: u64) -> u64
     ensures { result ≡ min 1 (a + b) }
 {
-    if 0 < a {
-        return 1;
-    }
-    if 0 < b { 1 } else { 0 }
+    u64::from(0 < a || 0 < b)
 }
 
 // 1 if the two are not equal, else 0.
 pub fn differs(a: u64, b: u64) -> u64
     ensures { result ≡ min 1 (differ a b) }
 {
-    either(below(a, b), below(b, a))
+    u64::from(a != b)
 }
 
 // The most that a slot's remainder may be, with p runs pending on it: 0 if it is unused, the next one's inside a run, and anything (below 2^64) at a
@@ -30,7 +27,7 @@ fn highest(p: u64, e: u64, next: u64) -> u64
     if p < 1 {
         return 0;
     }
-    if e < 1 { next } else { 18446744073709551615 }
+    if e < 1 { next } else { u64::MAX }
 }
 
 // 1 if a slot fails its tests, with p pending before it: its bits o and e, its remainder and the next slot's.

@@ -49,20 +49,17 @@ fn first(occupieds: u64, runends: u64, c: Cursor) -> Cursor
 {
     let mut pending = c.pending;
     let mut owed = c.owed;
-    let mut i = 0;
-    while i < 64 {
+    for i in 0..64 {
         let o = bits::bit::bit(occupieds, i);
         let e = bits::bit::bit(runends, i);
         owed += over(e, pending + o);
         pending = over(pending + o, e);
-        i += 1;
     }
     Cursor {
         passed: c.passed + 1,
         owed,
         pending,
-        used: c.used,
-        bad: c.bad,
+        ..c
     }
 }
 
@@ -96,15 +93,13 @@ fn distance(buf: &[u8], shape: Shape, b: u64, p: u64) -> u64
     ensures { result ≡ dist (sees shape buf.now b).runend 255 p 0 }
 {
     let mut left = p;
-    let mut d = 0;
-    while d < 255 {
+    for d in 0..255 {
         if left < 1 {
             return d;
         }
         left -= runend_on(buf, shape, b, d);
-        d += 1;
     }
-    d
+    255
 }
 
 // The last eight bytes.
@@ -137,8 +132,7 @@ fn second(buf: &[u8], shape: Shape, b: u64, c: Cursor) -> Cursor
     let mut used = c.used;
     let mut bad = either(c.bad, block_fails(buf, shape, b, pending));
     let mut here = remainder_on(buf, shape, b, 0);
-    let mut i = 0;
-    while i < 64 {
+    for i in 0..64 {
         let o = bits::bit::bit(occupieds, i);
         let e = bits::bit::bit(runends, i);
         let next = remainder_on(buf, shape, b, i + 1);
@@ -146,14 +140,13 @@ fn second(buf: &[u8], shape: Shape, b: u64, c: Cursor) -> Cursor
         used += either(pending, o);
         pending = over(pending + o, e);
         here = next;
-        i += 1;
     }
     Cursor {
         passed: c.passed + 1,
-        owed: c.owed,
         pending,
         used,
         bad,
+        ..c
     }
 }
 

@@ -2,6 +2,9 @@
 use Rattle.std.specs.Prelude.{ℕ, ◌+◌, ◌-◌, ◌*◌, ◌/◌, ◌%◌, ◌^◌, ◌<◌, ◌≤◌, ◌≡◌}
 use Rattle.std.proofs.Common.{sym, ◌∙◌, mul-add, mod-lt, one-mul, mul-le-mul_right, arith, pow_pos, shr_lt, shl_exact}
 use Rattle.std.proofs.Math.Pow.{split}
+use Rattle.std.proofs.lemmas.Nat.{from_le_bytes-to_le_bytes_8}
+use Rattle.std.specs.Int.{w64, to_le_bytes}
+use Rattle.theory.specs.number.Bytes.{le}
 use Rattle.theory.specs.number.Field.{field, put, by_lt, field_add, put_join, put_cat, field_lt, field_le, put_sub, put_lt}
 
 pub pair : (x o k : ℕ) (hi lo : ℕ) → hi ≡ field x (8 * (o + k)) (8 * k) → lo ≡ field x (8 * o) (8 * k)
@@ -45,3 +48,8 @@ packed_at i r h l = record { small = mul-le-mul_right r (omega arith); word = by
   where
     last : r ≡ 58 → (i * r) % 8 + r ≤ 64
     last e = rw e (omega arith)
+
+-- the eight bytes of a word that the library reads and writes are the number's
+pub le_word : (x : ℕ) → x < 2 ^ 64 → le (to_le_bytes w64 x) ≡ x
+unfolding le
+le_word x h = omega (arith, from_le_bytes-to_le_bytes_8 x h)

@@ -3,4 +3,4 @@ use Rattle.theory.specs.plan.Rates.{per_item_lem}
 use Rattle.layout.proofs.planning.bits_per_item.Goals as goal
 
 pub returns : goal.returns
-returns c = per_item_lem _ c.requires
+returns c = rw c.from.ensures (per_item_lem _ c.requires)

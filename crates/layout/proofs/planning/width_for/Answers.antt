@@ -1,25 +1,20 @@
 -- `layout::planning::width_for`: the walk of `width_from`. Assumes nothing.
-use mathlib.Core.Path.{refl, sym, ◌∙◌}
-use native.Mathlib.Omega.{arith}
+use Rattle.std.proofs.Common.{◌≡◌, refl, sym, ◌∙◌, arith}
 use Rattle.theory.specs.Planning.{needed_qbits}
 use Rattle.theory.specs.plan.Needed.{width_here, width_step, width_end}
 use Rattle.layout.proofs.planning.width_for.Goals as goal
 
 pub loop-qbits-init : goal.loop-qbits-init
 unfolding needed_qbits
-loop-qbits-init c = (omega arith, omega arith, refl)
+loop-qbits-init c = refl
 
 pub loop-qbits-preserved : goal.loop-qbits-preserved
-loop-qbits-preserved c =
-    let i = c.loop-qbits.invariant in
-    (omega arith, omega arith, sym (width_step _ _ (omega arith) (rw c.capacity_of.ensures at c.if-capacity_of-capacity.true)) ∙ i.2)
+loop-qbits-preserved c = sym (width_step _ _ (omega arith) (omega arith)) ∙ c.loop-qbits.invariant
 
-pub returns-else-capacity_of-capacity : goal.returns-else-capacity_of-capacity
-returns-else-capacity_of-capacity c =
-    let i = c.loop-qbits.invariant in
-    (sym (width_here _ _ _ (omega arith)) ∙ i.2, i.0, i.1)
+pub returns-then-capacity-capacity_of : goal.returns-then-capacity-capacity_of
+returns-then-capacity-capacity_of c = (sym (width_here _ _ _ (omega arith)) ∙ c.loop-qbits.invariant, omega arith, omega arith)
 
 pub returns : goal.returns
 returns c =
-    let i = c.loop-qbits.invariant in
-    (sym (width_end _ _ (omega arith)) ∙ i.2, i.0, i.1)
+    let e : c.loop-qbits.qbits ≡ 59 = omega arith in
+    (sym (width_end 59 _ (omega arith)) ∙ rw e at c.loop-qbits.invariant, omega arith, omega arith)

@@ -1,6 +1,6 @@
--- `layout::slot::runends`: a word of the block. Assumes nothing.
+-- `layout::slot::bits_of`: a word of the block. Assumes nothing.
 use Rattle.theory.specs.images.Block.{word_at}
-use Rattle.layout.proofs.slot.runends.Goals as goal
+use Rattle.layout.proofs.slot.bits_of.Goals as goal
 
 pub returns : goal.returns
 unfolding word_at
