@@ -1,7 +1,7 @@
 -- What the scans for lookup and count answer (docs/RULES.md, "Lookup and count").
 use Rattle.std.specs.Prelude.{ℕ, ◌/◌, ◌%◌, ◌^◌, ◌<◌, ◌≡◌, List}
 use Rattle.std.proofs.Common.{sym, ap, ◌∙◌, arith, pow_pos}
-use Rattle.std.proofs.Math.Decide.{dec_le, dec_lt}
+use Rattle.std.proofs.Math.Decide.{dec_le}
 use Rattle.std.proofs.Math.ListN.{length}
 use Rattle.theory.specs.Shape.{slots, fingerprint}
 use Rattle.theory.specs.Holding.{Holding, run, copies, seek}
@@ -46,11 +46,7 @@ module _ (h : Shape) (s l : List ℕ) (w : Shows h s l) (x : ℕ) (b : x < slots
 
   pub some_run : (v.occupied x ≡ 0 → ⊥) → 0 < length (run (2 ^ h.rbits) l x)
   unfolding occ
-  some_run e = go (dec_lt 0 (length (run (2 ^ h.rbits) l x)))
-    where
-      go : Dec (0 < length (run (2 ^ h.rbits) l x)) → 0 < length (run (2 ^ h.rbits) l x)
-      go (yes k) = k
-      go (no k) = absurd (e (omega (arith, w.image.occupieds x b, size)))
+  some_run e = omega (arith, w.image.occupieds x b, size)
 
   -- the counts that the buffer shows
   pub shown_runs : Runs (slots h.qbits) (many (slots h.qbits) (2 ^ h.rbits) l) v

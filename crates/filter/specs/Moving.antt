@@ -165,11 +165,7 @@ module _ (h : Shape) (b : List ℕ) where
   module _ (p : Place) (r : Stepped) where
     -- a place that is of no fingerprint is the end
     over : r ≡ done → ((l : List ℕ) → Shows h b l → (k : ℕ) → p ≡ place_of h.qbits h.rbits l k → k < length l → ⊥) → Steps h b p r
-    over e never = record { stays = λ _. e; right = λ l w k f. e ∙ sym (step_none h.qbits h.rbits l k (go l k (dec_lt k (length l)) (never l w k f))) }
-      where
-        go : (l : List ℕ) (k : ℕ) → Dec (k < length l) → (k < length l → ⊥) → length l ≤ k
-        go l k (yes c) f = absurd (f c)
-        go l k (no c) f = omega arith
+    over e never = record { stays = λ _. e; right = λ l w k f. e ∙ sym (step_none h.qbits h.rbits l k (omega (arith, never l w k f))) }
 
     pub none_steps : r ≡ done → p.remaining ≡ 0 → Steps h b p r
     none_steps e z = over e (λ l w k f c. omega (arith, place_left h.qbits h.rbits l k, ap (λ (y : Place). y.remaining) f))
