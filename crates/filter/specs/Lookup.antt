@@ -1,7 +1,7 @@
 -- What the scans for lookup and count answer (docs/RULES.md, "Lookup and count").
 use Rattle.std.specs.Prelude.{ℕ, ◌/◌, ◌%◌, ◌^◌, ◌<◌, ◌≡◌, List}
 use Rattle.std.proofs.Common.{sym, ap, ◌∙◌, arith, pow_pos}
-use Rattle.std.proofs.Math.Decide.{dec_le, dec_lt}
+use Rattle.std.proofs.Math.Decide.{dec_le}
 use Rattle.std.proofs.Math.ListN.{length}
 use Rattle.theory.specs.Shape.{slots, fingerprint}
 use Rattle.theory.specs.Holding.{Holding, run, copies, seek}
@@ -14,8 +14,8 @@ use Rattle.theory.specs.images.ByViews.{Image, many_at}
 use Rattle.theory.specs.reading.BehindRun.{Runs, image_runs}
 use Rattle.theory.specs.reading.RunAt.{image_run, run_few}
 use Rattle.layout.specs.declared.shape.Shape.{Shape}
-use Rattle.filter.specs.declared.lookup.Seen.{Seen}
-use Rattle.filter.specs.declared.lookup.Seen.TheVariants.{Absent}
+use Rattle.filter.specs.declared.lookup.Lookup.{Lookup}
+use Rattle.filter.specs.declared.lookup.Lookup.TheVariants.{Absent}
 use Rattle.theory.specs.reading.Walks.{RunStart}
 use Rattle.filter.specs.Scan.{seen_in, RunIn}
 
@@ -25,7 +25,7 @@ pub record Shows (h : Shape) (s l : List ℕ) : Type 0 where
   pub image : Image (slots h.qbits) (2 ^ h.rbits) l (views_in h s)
 
 -- what a scan of the run of the hash's quotient finds, if the buffer is an image
-abbrev pub Seeks : Shape → List ℕ → ℕ → Seen → Type 0
+abbrev pub Seeks : Shape → List ℕ → ℕ → Lookup → Type 0
 Seeks h s hash a = (l : List ℕ) → Shows h s l
     → a ≡ seen_in (fingerprint h.qbits h.rbits hash % 2 ^ h.rbits) (run (2 ^ h.rbits) l (fingerprint h.qbits h.rbits hash / 2 ^ h.rbits))
 
@@ -46,11 +46,7 @@ module _ (h : Shape) (s l : List ℕ) (w : Shows h s l) (x : ℕ) (b : x < slots
 
   pub some_run : (v.occupied x ≡ 0 → ⊥) → 0 < length (run (2 ^ h.rbits) l x)
   unfolding occ
-  some_run e = go (dec_lt 0 (length (run (2 ^ h.rbits) l x)))
-    where
-      go : Dec (0 < length (run (2 ^ h.rbits) l x)) → 0 < length (run (2 ^ h.rbits) l x)
-      go (yes k) = k
-      go (no k) = absurd (e (omega (arith, w.image.occupieds x b, size)))
+  some_run e = omega (arith, w.image.occupieds x b, size)
 
   -- the counts that the buffer shows
   pub shown_runs : Runs (slots h.qbits) (many (slots h.qbits) (2 ^ h.rbits) l) v

@@ -8,9 +8,10 @@ ghost use Rattle.filter.specs.Places.{nowhere, done, stepped, Ends, Moves, First
 
 use crate::runs::{run_start, unrolled};
 use bits::compare::larger;
-use bits::select::Found;
-use layout::check::{Verdict, check};
+use bits::select::lowest_from;
+use layout::check::check;
 use layout::numbers::{Numbers, number_due};
+use layout::refusal::Refusal;
 use layout::shape::Shape;
 use layout::slot;
 
@@ -23,26 +24,11 @@ pub struct Place {
     pub remaining: u64,
 }
 
-// A step's answer: the next fingerprint, done, or refused.
-#[derive(Clone, Copy)]
-pub enum Step {
-    Fingerprint(u64),
-    Done,
-    Refused(u8),
-}
-
-// A step's answer and the place after it.
+// A step's answer, the next fingerprint, none where the listing is done, or refused; and the place after it.
 #[derive(Clone, Copy)]
 pub struct Stepped {
-    pub step: Step,
+    pub step: Result<Option<u64>, Refusal>,
     pub place: Place,
-}
-
-// A beginning's answer: the place of the first fingerprint, or refused.
-#[derive(Clone, Copy)]
-pub enum Begun {
-    At(Place),
-    Refused(u8),
 }
 
 // The place of a listing that is over.
@@ -61,32 +47,25 @@ fn finished() -> Stepped
     ensures { result ≡ done }
 {
     Stepped {
-        step: Step::Done,
+        step: Ok(None),
         place: none_left(),
     }
 }
 
 // The first occupied quotient from `from` on, a word of occupieds at a time.
-fn next_occupied(buf: &[u8], shape: Shape, from: u64) -> Found
+#[tactic(auto, using(theory::specs::images::Sizes::slots_blocks))]
+fn next_occupied(buf: &[u8], shape: Shape, from: u64) -> Option<u64>
     requires { (Whole shape (length buf.now)) × (from ≤ slots shape.qbits) }
     ensures { NextOccupied (slots shape.qbits) (views_in shape buf.now) from result }
 {
-    let blocks = shape.blocks();
-    let mut b = from / 64;
     let mut skip = from % 64;
-    while b < blocks {
-        let found = bits::select::lowest_from(slot::occupieds(buf, shape, b), skip);
-        match found {
-            Found::At(p) => {
-                return Found::At(64 * b + p);
-            }
-            Found::Nothing => {
-                skip = 0;
-            }
+    for b in from / 64..shape.blocks() {
+        if let Some(p) = lowest_from(slot::occupieds(buf, shape, b), skip) {
+            return Some(64 * b + p);
         }
-        b += 1;
+        skip = 0;
     }
-    Found::Nothing
+    None
 }
 
 // Slot t of at most two rounds, in the first.
@@ -98,6 +77,7 @@ fn wrapped(t: u64, slots: u64) -> u64
 }
 
 // The fingerprint of a quotient and a remainder.
+#[tactic(auto, using(theory::specs::reading::ListingPlaces::join_high, theory::specs::reading::ListingPlaces::join_lt))]
 fn joined(shape: Shape, x: u64, rem: u64) -> u64
     requires { (Widths shape.qbits shape.rbits) × (x < slots shape.qbits) × (rem < 2 ^ shape.rbits) }
     ensures { result ≡ x * 2 ^ shape.rbits + rem }
@@ -111,7 +91,7 @@ fn next_run(buf: &[u8], shape: Shape, x: u64, s: u64, left: u64) -> Place
     ensures { Ends shape buf.now s → Moves shape buf.now x s left result }
 {
     let slots = shape.slots();
-    let Found::At(y) = next_occupied(buf, shape, x + 1) else {
+    let Some(y) = next_occupied(buf, shape, x + 1) else {
         return none_left();
     };
     let end = unrolled(s, x, slots) + 1;
@@ -123,6 +103,7 @@ fn next_run(buf: &[u8], shape: Shape, x: u64, s: u64, left: u64) -> Place
 }
 
 // The place behind that of quotient x and slot s.
+#[tactic(auto, using(theory::specs::images::Sizes::slots_high))]
 fn next_place(buf: &[u8], shape: Shape, x: u64, s: u64, left: u64) -> Place
     requires { (Whole shape (length buf.now)) × (x < slots shape.qbits) × (s < slots shape.qbits) }
     ensures { Moves shape buf.now x s left result }
@@ -141,6 +122,7 @@ fn next_place(buf: &[u8], shape: Shape, x: u64, s: u64, left: u64) -> Place
 }
 
 // The place of the first of len fingerprints.
+#[tactic(auto, using(crate::specs::Moving::none_first, crate::specs::Moving::missed_first))]
 pub fn first_place(buf: &[u8], shape: Shape, len: u64) -> Place
     requires { Whole shape (length buf.now) }
     ensures { First shape buf.now len result }
@@ -148,7 +130,7 @@ pub fn first_place(buf: &[u8], shape: Shape, len: u64) -> Place
     if len == 0 {
         return none_left();
     }
-    let Found::At(x) = next_occupied(buf, shape, 0) else {
+    let Some(x) = next_occupied(buf, shape, 0) else {
         return none_left();
     };
     Place {
@@ -159,6 +141,7 @@ pub fn first_place(buf: &[u8], shape: Shape, len: u64) -> Place
 }
 
 // One step over numbers that passed 1 to 5: the fingerprint of the place, and the place behind it. A place that has no slot is the end.
+#[tactic(auto, using(crate::specs::Moving::none_steps, crate::specs::Moving::outside_steps, crate::specs::Moving::some_steps))]
 pub fn step_core(buf: &[u8], shape: Shape, place: Place) -> Stepped
     requires { Whole shape (length buf.now) }
     ensures { Steps shape buf.now place result }
@@ -166,44 +149,33 @@ pub fn step_core(buf: &[u8], shape: Shape, place: Place) -> Stepped
     let slots = shape.slots();
     let x = place.quotient;
     let s = place.slot;
-    if place.remaining == 0 {
-        return finished();
-    }
-    if slots <= x {
-        return finished();
-    }
-    if slots <= s {
+    if place.remaining == 0 || slots <= x || slots <= s {
         return finished();
     }
     let f = joined(shape, x, slot::get_remainder(buf, shape, s));
     Stepped {
-        step: Step::Fingerprint(f),
+        step: Ok(Some(f)),
         place: next_place(buf, shape, x, s, place.remaining - 1),
     }
 }
 
 // A listing's beginning: checked, then the place of the first fingerprint.
-pub fn begin(buf: &[u8], n: Numbers) -> Begun
+#[tactic(auto, using(layout::specs::Judging::clear_whole))]
+pub fn begin(buf: &[u8], n: Numbers) -> Result<Place, Refusal>
     ensures { Begins n buf.now result }
 {
-    let verdict = check(buf, n);
-    match verdict {
-        Verdict::Refused(number) => Begun::Refused(number),
-        Verdict::Sound => {
-            let shape = n.shape();
-            Begun::At(first_place(buf, shape, n.len))
-        }
-    }
+    check(buf, n)?;
+    Ok(first_place(buf, n.shape(), n.len))
 }
 
 // One step: numbers 1 to 5 are asked first, and a refused step leaves the place as it was.
+#[tactic(auto, using(layout::specs::Judging::clear_whole, crate::specs::Listing::listed_refused, crate::specs::Listing::listed_core))]
 pub fn step_from(buf: &[u8], n: Numbers, place: Place) -> Stepped
     ensures { Listed n buf.now place result }
 {
-    let due = number_due(buf.len(), n);
-    if 0 < due {
+    if let Err(e) = number_due(buf.len(), n) {
         return Stepped {
-            step: Step::Refused(due),
+            step: Err(e),
             place,
         };
     }
@@ -211,7 +183,7 @@ pub fn step_from(buf: &[u8], n: Numbers, place: Place) -> Stepped
 }
 
 // A place is lent, and moved on by one fingerprint.
-pub fn step_on(buf: &[u8], n: Numbers, place: &mut Place) -> Step
+pub fn step_on(buf: &[u8], n: Numbers, place: &mut Place) -> Result<Option<u64>, Refusal>
     ensures { Listed n buf.now place.old (stepped result place.new) }
 {
     let stepped = step_from(buf, n, *place);

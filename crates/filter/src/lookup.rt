@@ -10,14 +10,15 @@ use bits::compare::equal;
 use layout::shape::Shape;
 use layout::slot;
 
-// What a scan of a run finds: where the first equal remainder stands, counted from 1; or the run's length, if none is equal.
-#[derive(Clone, Copy)]
-pub enum Seen {
-    At(u64),
+// Is it held, and how many remainders of its run were compared: up to the first equal one; or all, if none is equal.
+#[derive(Clone, Copy, Debug, PartialEq, Eq)]
+pub enum Lookup {
+    Held(u64),
     Absent(u64),
 }
 
 // The quotient of the fingerprint that a hash has.
+#[tactic(auto, using(theory::specs::images::Sizes::fingerprint_quotient, theory::specs::images::Sizes::slots_pos))]
 pub fn quotient(shape: Shape, hash: u64) -> u64
     requires { Widths shape.qbits shape.rbits }
     ensures { (result ≡ fingerprint shape.qbits shape.rbits hash / 2 ^ shape.rbits) × (result < slots shape.qbits) }
@@ -26,6 +27,7 @@ pub fn quotient(shape: Shape, hash: u64) -> u64
 }
 
 // The remainder of the fingerprint that a hash has.
+#[tactic(auto, using(theory::specs::images::Sizes::fingerprint_remainder))]
 pub fn remainder(shape: Shape, hash: u64) -> u64
     requires { Widths shape.qbits shape.rbits }
     ensures { (result ≡ fingerprint shape.qbits shape.rbits hash % 2 ^ shape.rbits) × (result < 2 ^ shape.rbits) }
@@ -34,36 +36,34 @@ pub fn remainder(shape: Shape, hash: u64) -> u64
 }
 
 // The first remainder equal to `rem` in the run that starts at slot `at`, left from inside once it or the run's end is met.
-fn first_equal(buf: &[u8], shape: Shape, at: u64, rem: u64) -> Seen
+fn first_equal(buf: &[u8], shape: Shape, at: u64, rem: u64) -> Lookup
     requires { (Whole shape (length buf.now)) × (at < slots shape.qbits) }
     ensures { Sought (slots shape.qbits) (views_in shape buf.now) at rem result }
 {
     let slots = shape.slots();
     let mut k = 0;
-    let seen = loop {
+    // Kept: a scan of a run's slots is a loop left by break.
+    loop {
         let s = (at + k) % slots;
         k += 1;
         if slot::get_remainder(buf, shape, s) == rem {
-            break Seen::At(k);
+            break Lookup::Held(k);
         }
-        if slot::is_runend(buf, shape, s) == 1 {
-            break Seen::Absent(k);
+        if slot::is_runend(buf, shape, s) == 1 || k == slots {
+            break Lookup::Absent(k);
         }
-        if k == slots {
-            break Seen::Absent(k);
-        }
-    };
-    seen
+    }
 }
 
 // Where the fingerprint of a hash first stands in its run, or that it is absent.
-pub fn find_hash(buf: &[u8], shape: Shape, hash: u64) -> Seen
+#[tactic(auto, using(crate::specs::Lookup::seen_empty))]
+pub fn find_hash(buf: &[u8], shape: Shape, hash: u64) -> Lookup
     requires { Whole shape (length buf.now) }
     ensures { Seeks shape buf.now hash result }
 {
     let x = quotient(shape, hash);
     if slot::is_occupied(buf, shape, x) == 0 {
-        return Seen::Absent(0);
+        return Lookup::Absent(0);
     }
     // `&*buf`, here and in `count_hash`: a slice handed on as it came is copied whole first, and the copy waits for memory.
     let at = run_start(&*buf, shape, x);
@@ -78,21 +78,19 @@ fn count_from(buf: &[u8], shape: Shape, at: u64, from: u64, rem: u64) -> u64
     let slots = shape.slots();
     let mut k = from;
     let mut count = 0;
-    let all = loop {
+    // Kept: a scan of a run's slots is a loop left by break.
+    loop {
         let s = (at + k) % slots;
         k += 1;
         count += equal(slot::get_remainder(buf, shape, s), rem);
-        if slot::is_runend(buf, shape, s) == 1 {
+        if slot::is_runend(buf, shape, s) == 1 || k == slots {
             break count;
         }
-        if k == slots {
-            break count;
-        }
-    };
-    all
+    }
 }
 
 // How often the fingerprint of a hash is held.
+#[tactic(auto, using(crate::specs::Lookup::count_empty))]
 pub fn count_hash(buf: &[u8], shape: Shape, hash: u64) -> u64
     requires { Whole shape (length buf.now) }
     ensures { Counts shape buf.now hash result }
@@ -103,7 +101,7 @@ pub fn count_hash(buf: &[u8], shape: Shape, hash: u64) -> u64
     }
     let at = run_start(&*buf, shape, x);
     let rem = remainder(shape, hash);
-    let Seen::At(k) = first_equal(buf, shape, at, rem) else {
+    let Lookup::Held(k) = first_equal(buf, shape, at, rem) else {
         return 0;
     };
     count_from(buf, shape, at, k - 1, rem)

@@ -5,15 +5,16 @@ ghost use Rattle.theory.specs.number.Bytes.{le};
 ghost use Rattle.theory.specs.reading.Ring.{ring_at};
 ghost use Rattle.layout.specs.Whole.{Whole, views_in};
 ghost use Rattle.theory.specs.reading.StartNear.{Pending};
-ghost use Rattle.theory.specs.reading.Walks.{NearestTold, OffsetOf, RunStart, RunEnd, Unrolled};
-ghost use Rattle.filter.specs.Runs.{InWord, NthRunend, Behind, NextCarry, PastRun, FreeFrom};
+ghost use Rattle.theory.specs.reading.Walks.{OffsetOf, RunStart, RunEnd, Unrolled};
+ghost use Rattle.filter.specs.Runs.{InWord, NthRunend, NearestAt, Behind, NextCarry, PastRun, FreeFrom};
 
 use bits::compare::larger;
-use bits::select::{Found, Nth};
+use bits::select::select;
 use layout::shape::Shape;
 use layout::slot;
 
 // What a word says of the runend looked for: its digit, or how many are left behind the word.
+// Kept: neither case is a failure.
 #[derive(Clone, Copy)]
 pub enum InBlock {
     End(u64),
@@ -21,89 +22,79 @@ pub enum InBlock {
 }
 
 // The runend looked for in the word w, from its digit `skip` on, with `left` to be passed.
+#[tactic(auto, using(theory::specs::reading::Ring::high_one))]
 fn runend_in(w: u64, skip: u64, left: u64) -> InBlock
     requires { skip < 64 }
     ensures { InWord w skip left result }
 {
     let high = w >> skip;
-    let Nth::At(p) = bits::select::select(high, left) else {
+    let Some(p) = select(high, left) else {
         return InBlock::On(left - bits::count::ones(high));
     };
     InBlock::End(skip + p)
 }
 
 // The n-th runend from slot `at` on, round the end.
-fn nth_runend(buf: &[u8], shape: Shape, at: u64, n: u64) -> Found
+#[tactic(auto, using(theory::specs::images::Sizes::slots_blocks, theory::specs::tools::Total::total_le))]
+fn nth_runend(buf: &[u8], shape: Shape, at: u64, n: u64) -> Option<u64>
     requires { (Whole shape (length buf.now)) × (at < 2 ^ 61) }
     ensures { NthRunend (ring_at shape.rbits 9 (slots shape.qbits) (le buf.now)) (slots shape.qbits) at n result }
 {
     let blocks = shape.blocks();
-    let last = at / 64 + blocks;
-    let mut k = at / 64;
     let mut skip = at % 64;
     let mut left = n;
-    while k <= last {
-        let found = runend_in(slot::runends(buf, shape, k % blocks), skip, left);
-        match found {
-            InBlock::End(p) => {
-                return Found::At(64 * k + p);
-            }
-            InBlock::On(rest) => {
-                left = rest;
-            }
+    for k in at / 64..at / 64 + blocks + 1 {
+        match runend_in(slot::runends(buf, shape, k % blocks), skip, left) {
+            InBlock::End(p) => return Some(64 * k + p),
+            InBlock::On(rest) => left = rest,
         }
         skip = 0;
-        k += 1;
     }
-    Found::Nothing
+    None
 }
 
 // The slot behind the run of x, if o is the offset of its block.
-fn behind_run(buf: &[u8], shape: Shape, x: u64, o: u64) -> Found
+#[tactic(auto, using(theory::specs::images::Sizes::slots_blocks, theory::specs::images::Sizes::slots_high, theory::specs::images::Sizes::slot_block))]
+fn behind_run(buf: &[u8], shape: Shape, x: u64, o: u64) -> Option<u64>
     requires { (Whole shape (length buf.now)) × (x < slots shape.qbits) × (o ≤ 2 ^ 60) }
     ensures { Behind (slots shape.qbits) (views_in shape buf.now) x o result }
 {
     let b = x / 64;
     let k = bits::count::ones_through(slot::occupieds(buf, shape, b), x % 64);
     if k == 0 {
-        return Found::At(larger(x + 1, 64 * b + o));
+        return Some(larger(x + 1, 64 * b + o));
     }
-    let Found::At(p) = nth_runend(buf, shape, 64 * b + o, k - 1) else {
-        return Found::Nothing;
-    };
-    Found::At(larger(x + 1, p + 1))
+    let p = nth_runend(buf, shape, 64 * b + o, k - 1)?;
+    Some(larger(x + 1, p + 1))
 }
 
 // The carry before the block behind block b, told by the carry o before b: that far the last run of b goes past its last slot.
-pub fn next_carry(buf: &[u8], shape: Shape, b: u64, o: u64) -> Found
+#[tactic(auto, using(theory::specs::images::Sizes::slots_blocks, theory::specs::images::Sizes::blocks_high, crate::specs::Offsets::next_missed))]
+pub fn next_carry(buf: &[u8], shape: Shape, b: u64, o: u64) -> Option<u64>
     requires { (Whole shape (length buf.now)) × (b < blocks shape.qbits) × (o ≤ 2 ^ 60) }
     ensures { NextCarry (slots shape.qbits) (views_in shape buf.now) b o result }
 {
     let first = 64 * b;
-    let Found::At(s) = behind_run(buf, shape, first + 63, o) else {
-        return Found::Nothing;
-    };
+    let s = behind_run(buf, shape, first + 63, o)?;
     let next = s - (first + 64);
     if shape.slots() < next {
-        return Found::Nothing;
+        return None;
     }
-    Found::At(next)
+    Some(next)
 }
 
-// How many blocks before b, round the end, the nearest one stands whose byte is below 255; 0 if there is none.
-fn blocks_back(buf: &[u8], shape: Shape, b: u64) -> u64
+// How many blocks before b, round the end, the nearest one stands whose byte is below 255, if there is one.
+fn blocks_back(buf: &[u8], shape: Shape, b: u64) -> Option<u64>
     requires { (Whole shape (length buf.now)) × (b < blocks shape.qbits) }
-    ensures { NearestTold (blocks shape.qbits) (views_in shape buf.now) b result }
+    ensures { NearestAt (blocks shape.qbits) (views_in shape buf.now) b result }
 {
     let blocks = shape.blocks();
-    let mut k = 1;
-    while k <= blocks {
+    for k in 1..blocks + 1 {
         if slot::offset_byte(buf, shape, (b + blocks - k) % blocks) < 255 {
-            return k;
+            return Some(k);
         }
-        k += 1;
     }
-    0
+    None
 }
 
 // The true offset of block b where 255 stands there: from the nearest block before it that tells its own, a block at a time.
@@ -112,23 +103,22 @@ fn calc_offset(buf: &[u8], shape: Shape, b: u64) -> u64
     ensures { OffsetOf (slots shape.qbits) (views_in shape buf.now) b result }
 {
     let blocks = shape.blocks();
-    let back = blocks_back(buf, shape, b);
-    if back == 0 {
+    let Some(back) = blocks_back(buf, shape, b) else {
         return 0;
-    }
-    let mut j = b + blocks - back;
-    let mut o = slot::offset_byte(buf, shape, j % blocks);
-    while j < b + blocks {
-        let Found::At(next) = next_carry(buf, shape, j % blocks, o) else {
+    };
+    let from = b + blocks - back;
+    let mut o = slot::offset_byte(buf, shape, from % blocks);
+    for j in from..b + blocks {
+        let Some(next) = next_carry(buf, shape, j % blocks, o) else {
             return 0;
         };
         o = next;
-        j += 1;
     }
     o
 }
 
 // The carry before block b.
+#[tactic(auto, using(theory::specs::images::Sizes::slots_blocks, theory::specs::reading::Walks::byte_offset))]
 pub fn offset(buf: &[u8], shape: Shape, b: u64) -> u64
     requires { (Whole shape (length buf.now)) × (b < blocks shape.qbits) }
     ensures { OffsetOf (slots shape.qbits) (views_in shape buf.now) b result }
@@ -141,23 +131,23 @@ pub fn offset(buf: &[u8], shape: Shape, b: u64) -> u64
 }
 
 // How far behind slot s, which is not taken round the end, the slot behind its quotient's run is.
-pub fn past_run(buf: &[u8], shape: Shape, s: u64) -> Found
+#[tactic(auto, using(theory::specs::images::Sizes::slot_block, crate::specs::Offsets::past_missed))]
+pub fn past_run(buf: &[u8], shape: Shape, s: u64) -> Option<u64>
     requires { Whole shape (length buf.now) }
     ensures { PastRun (slots shape.qbits) (views_in shape buf.now) s result }
 {
     let y = s % shape.slots();
-    let Found::At(t) = behind_run(buf, shape, y, offset(buf, shape, y / 64)) else {
-        return Found::Nothing;
-    };
-    Found::At(t - y)
+    let t = behind_run(buf, shape, y, offset(buf, shape, y / 64))?;
+    Some(t - y)
 }
 
 // The last slot of the run of x; of an empty run, the slot before the next quotient's.
+#[tactic(auto, using(theory::specs::images::Sizes::slots_high, crate::specs::Offsets::end_found, crate::specs::Offsets::end_missed))]
 fn run_end(buf: &[u8], shape: Shape, x: u64) -> u64
     requires { (Whole shape (length buf.now)) × (x < slots shape.qbits) }
     ensures { RunEnd (slots shape.qbits) (views_in shape buf.now) x result }
 {
-    let Found::At(gap) = past_run(buf, shape, x) else {
+    let Some(gap) = past_run(buf, shape, x) else {
         return x;
     };
     (x + gap - 1) % shape.slots()
@@ -173,11 +163,12 @@ fn start_behind(buf: &[u8], shape: Shape, x: u64) -> u64
 }
 
 // The first slot of the run of x, if n runends stand from slot x on before it: the one behind the last of them.
+#[tactic(auto, using(theory::specs::images::Sizes::slots_high))]
 fn start_past(buf: &[u8], shape: Shape, x: u64, n: u64) -> u64
     requires { (Whole shape (length buf.now)) × (x < slots shape.qbits) × (0 < n) × Pending (slots shape.qbits) (views_in shape buf.now) x n }
     ensures { RunStart (slots shape.qbits) (views_in shape buf.now) x result }
 {
-    let Found::At(p) = nth_runend(buf, shape, x, n - 1) else {
+    let Some(p) = nth_runend(buf, shape, x, n - 1) else {
         return x;
     };
     (p + 1) % shape.slots()
@@ -185,6 +176,7 @@ fn start_past(buf: &[u8], shape: Shape, x: u64, n: u64) -> u64
 
 // The first slot of the run of x. Where no run from before the block reaches slot x, it is the one behind the runends of those of the block's runs
 // that are not over at x. They are few, and mostly in its word, which is shifted up by one from x on, with a one below for x itself.
+#[tactic(auto, using(theory::specs::images::Sizes::slots_high, theory::specs::images::Sizes::slot_block))]
 pub fn run_start(buf: &[u8], shape: Shape, x: u64) -> u64
     requires { (Whole shape (length buf.now)) × (x < slots shape.qbits) }
     ensures { RunStart (slots shape.qbits) (views_in shape buf.now) x result }
@@ -203,7 +195,7 @@ pub fn run_start(buf: &[u8], shape: Shape, x: u64) -> u64
         return x;
     }
     let n = begun - over;
-    let Nth::At(p) = bits::select::select(((word >> i) << 1) + 1, n) else {
+    let Some(p) = select(((word >> i) << 1) + 1, n) else {
         return start_past(buf, shape, x, n);
     };
     (x + p) % shape.slots()
@@ -218,20 +210,20 @@ pub fn unrolled(at: u64, x: u64, slots: u64) -> u64
 }
 
 // The first free slot from slot x on, not taken round the end: from each slot that is used on to the one behind its run.
-pub fn first_free(buf: &[u8], shape: Shape, x: u64) -> Found
+#[tactic(auto, using(crate::specs::Offsets::walked_none, crate::specs::Offsets::walked_missed, crate::specs::Offsets::walked_round))]
+pub fn first_free(buf: &[u8], shape: Shape, x: u64) -> Option<u64>
     requires { (Whole shape (length buf.now)) × (x < slots shape.qbits) }
     ensures { FreeFrom (slots shape.qbits) (views_in shape buf.now) x result }
 {
     let slots = shape.slots();
     let mut s = x;
+    // Kept: it does not count, it jumps from run to run.
     while s < x + slots {
-        let Found::At(gap) = past_run(buf, shape, s) else {
-            return Found::Nothing;
-        };
+        let gap = past_run(buf, shape, s)?;
         if gap + slot::is_runend(buf, shape, s % slots) == 1 {
-            return Found::At(s);
+            return Some(s);
         }
         s += gap;
     }
-    Found::Nothing
+    None
 }
