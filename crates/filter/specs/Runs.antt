@@ -2,6 +2,8 @@
 use Rattle.std.specs.Prelude.{ℕ, suc, ◌+◌, ◌-◌, ◌*◌, ◌/◌, ◌%◌, ◌^◌, ◌≤◌, ◌<◌, max, ◌≡◌}
 use Rattle.std.proofs.Common.{sym, ap, ◌∙◌, arith}
 use Rattle.theory.specs.tools.Total.{total}
+use Rattle.theory.specs.Shape.{slots, blocks}
+use Rattle.theory.specs.images.Sizes.{slots_blocks}
 use Rattle.theory.specs.number.Field.{field}
 use Rattle.theory.specs.number.Count.{rank}
 use Rattle.theory.specs.Image.{Views, carry, start}
@@ -48,6 +50,10 @@ pub record PastRun (m : ℕ) (v : Views) (s : ℕ) (f : Found) : Type 0 where
 pub record FreeFrom (m : ℕ) (v : Views) (x : ℕ) (f : Found) : Type 0 where
   pub right : (n : ℕ → ℕ) → Runs m n v → Offsets m n v → (z : FirstFree m n x) → f ≡ At z.at
   pub bound : Within x (x + m - 1) f
+
+-- 64 slots for each of the blocks counted
+pub slots_counted : (q B : ℕ) → 6 ≤ q → B ≡ blocks q → slots q ≡ 64 * B
+slots_counted q B h e = omega (arith, slots_blocks q h)
 
 -- the three ways to find it: no quotient of the block up to x is occupied; the runend of the last that is; or none, on a damaged buffer only
 module _ (r buf m B x o k : ℕ) (whole : m ≡ 64 * B) (l : x < m) (ek : k ≡ rank (word_at r 1 buf (x / 64)) (x % 64 + 1)) where

@@ -1,6 +1,6 @@
 -- What the scans of a run answer.
-use Rattle.std.specs.Prelude.{ℕ, suc, ◌+◌, ◌-◌, ◌%◌, ◌≤◌, ◌<◌, ◌≡◌, ◌≢◌, List, length, get_or, drop}
-use Rattle.std.proofs.Common.{sym, ap, ◌∙◌, arith, add-one}
+use Rattle.std.specs.Prelude.{ℕ, suc, ◌+◌, ◌-◌, ◌%◌, ◌≤◌, ◌<◌, ◌≡◌, ◌≢◌, ◌⊎◌, List, length, get_or, drop}
+use Rattle.std.proofs.Common.{sym, ap, ◌∙◌, inl, inr, arith, add-one}
 use Rattle.std.proofs.Math.Decide.{dec_le}
 use Rattle.theory.specs.tools.Choose.{choose, choose_yes, choose_no}
 use Rattle.theory.specs.Holding.{copies, seek}
@@ -52,7 +52,7 @@ module _ (m : ℕ) (v : Views) (at rem k here : ℕ) (p : Passing m v at rem k) 
           sym (choose_yes (dec_le 1 (copies rem l)) (At (seek rem l)) (Absent (seek rem l)) (omega (arith, z.copied)) ∙ ap At (sym f))
 
   -- the run's last place
-  pub sought_end : here ≢ rem → v.runend ((at + k) % m) ≡ 1 → k < m → Sought m v at rem (Absent (k + 1))
+  sought_end : here ≢ rem → v.runend ((at + k) % m) ≡ 1 → k < m → Sought m v at rem (Absent (k + 1))
   sought_end q one few = record { right = missed; bound = omega arith }
     where
       last : (l : List ℕ) → RunIn m v at l → Dec (length l ≤ suc k) → length l ≤ suc k
@@ -80,9 +80,14 @@ module _ (m : ℕ) (v : Views) (at rem k here : ℕ) (p : Passing m v at rem k) 
       more (yes y) = absurd (none (w.final k (omega (arith, (p l w h).within))))
       more (no y) = omega arith
 
--- a run is shorter than a round, so a scan of a whole round has met its end
-pub sought_round : (m : ℕ) (v : Views) (at rem k : ℕ) → k ≡ m → Passing m v at rem k → Sought m v at rem (Absent k)
-sought_round m v at rem k h p = record { right = λ l w few. absurd (omega (arith, (p l w few).within)); bound = omega arith }
+  -- a run is shorter than a round, so a scan of a whole round has met its end
+  sought_round : here ≢ rem → (v.runend ((at + k) % m) ≡ 1 → ⊥) → k + 1 ≡ m → Sought m v at rem (Absent (k + 1))
+  sought_round q none h = record { right = λ l w few. absurd (omega (arith, (passing_on q none l w few).within)); bound = omega arith }
+
+  -- the run is over, by its last slot or by a whole round
+  pub sought_over : (bit : ℕ) → bit ≡ v.runend ((at + k) % m) → here ≢ rem → k < m → (bit ≡ 1) ⊎ ((bit ≡ 1 → ⊥) × (k + 1 ≡ m)) → Sought m v at rem (Absent (k + 1))
+  sought_over bit d q few (inl one) = sought_end q (sym d ∙ one) few
+  sought_over bit d q few (inr r) = sought_round q (λ y. r.0 (d ∙ y)) r.1
 
 -- how often `rem` stands in the run from its place `from` on
 pub record Counted (m : ℕ) (v : Views) (at from rem a : ℕ) : Type 0 where
@@ -102,7 +107,7 @@ module _ (m : ℕ) (v : Views) (at from rem k count here e : ℕ) (p : Counting 
       let c : here ≡ get_or l k 0 = is ∙ w.cells k z.0 in
       omega (arith, z.1, copies_next rem l k e z.0 (λ y. one (c ∙ y)) (λ y. none (λ u. y (sym c ∙ u))))
 
-  pub counted_end : v.runend ((at + k) % m) ≡ 1 → k < m → Counted m v at from rem (count + e)
+  counted_end : v.runend ((at + k) % m) ≡ 1 → k < m → Counted m v at from rem (count + e)
   counted_end last few = record {
     right = λ l w h f.
         let z = p.right l w h f in
@@ -124,12 +129,12 @@ module _ (m : ℕ) (v : Views) (at from rem k count here e : ℕ) (p : Counting 
       more l w h (yes y) = absurd (going (w.final k (omega arith)))
       more l w h (no y) = omega arith
 
--- a run is shorter than a round
-pub counted_round : (m : ℕ) (v : Views) (at from rem k count : ℕ) → k ≡ m → Counting m v at from rem k count → Counted m v at from rem count
-counted_round m v at from rem k count e p = record {
-  right = λ l w h f. absurd (omega (arith, (p.right l w h f).0));
-  bound = omega (arith, p.bound);
-}
+  -- the run is over, by its last slot or, since it is shorter than a round, by a whole round
+  pub counted_over : (b : ℕ) → b ≡ v.runend ((at + k) % m) → k < m → (b ≡ 1) ⊎ ((b ≡ 1 → ⊥) × (k + 1 ≡ m)) → Counted m v at from rem (count + e)
+  counted_over b d few (inl last) = counted_end (sym d ∙ last) few
+  counted_over b d few (inr r) =
+      let q = counting_on (λ y. r.0 (d ∙ y)) in
+      record { right = λ l w h f. absurd (omega (arith, (q.right l w h f).0)); bound = omega (arith, q.bound) }
 
 -- from the first equal one on, all are counted
 pub counted_all : (m : ℕ) (v : Views) (at rem k a : ℕ) (l : List ℕ) → RunIn m v at l → length l < m → At k ≡ seen_in rem l → Counted m v at (k - 1) rem a → a ≡ copies rem l

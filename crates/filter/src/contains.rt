@@ -32,6 +32,7 @@ fn lookup_from(seen: Seen) -> Lookup
 }
 
 // Is the fingerprint of a hash held: the whole buffer is checked first.
+#[tactic(auto, using(layout::specs::Judging::clear_whole))]
 pub fn contains_fingerprint(buf: &[u8], n: Numbers, hash: u64) -> Lookup
     ensures { Contains n buf.now hash result }
 {
@@ -43,6 +44,7 @@ pub fn contains_fingerprint(buf: &[u8], n: Numbers, hash: u64) -> Lookup
 }
 
 // The same without the check: only numbers 1 to 5 are asked first.
+#[tactic(auto, using(layout::specs::Judging::clear_whole))]
 pub fn contains_fingerprint_quick(buf: &[u8], n: Numbers, hash: u64) -> Lookup
     ensures { ContainsQuick n buf.now hash result }
 {
@@ -54,6 +56,7 @@ pub fn contains_fingerprint_quick(buf: &[u8], n: Numbers, hash: u64) -> Lookup
 }
 
 // How often the fingerprint of a hash is held: the whole buffer is checked first.
+#[tactic(auto, using(layout::specs::Judging::clear_whole))]
 pub fn count_fingerprint(buf: &[u8], n: Numbers, hash: u64) -> Counting
     ensures { Count n buf.now hash result }
 {
@@ -65,6 +68,7 @@ pub fn count_fingerprint(buf: &[u8], n: Numbers, hash: u64) -> Counting
 }
 
 // The same without the check: only numbers 1 to 5 are asked first.
+#[tactic(auto, using(layout::specs::Judging::clear_whole))]
 pub fn count_fingerprint_quick(buf: &[u8], n: Numbers, hash: u64) -> Counting
     ensures { CountQuick n buf.now hash result }
 {

@@ -67,24 +67,17 @@ fn finished() -> Stepped
 }
 
 // The first occupied quotient from `from` on, a word of occupieds at a time.
+#[tactic(auto, using(theory::specs::images::Sizes::slots_blocks))]
 fn next_occupied(buf: &[u8], shape: Shape, from: u64) -> Found
     requires { (Whole shape (length buf.now)) × (from ≤ slots shape.qbits) }
     ensures { NextOccupied (slots shape.qbits) (views_in shape buf.now) from result }
 {
-    let blocks = shape.blocks();
-    let mut b = from / 64;
     let mut skip = from % 64;
-    while b < blocks {
-        let found = bits::select::lowest_from(slot::occupieds(buf, shape, b), skip);
-        match found {
-            Found::At(p) => {
-                return Found::At(64 * b + p);
-            }
-            Found::Nothing => {
-                skip = 0;
-            }
+    for b in from / 64..shape.blocks() {
+        if let Found::At(p) = bits::select::lowest_from(slot::occupieds(buf, shape, b), skip) {
+            return Found::At(64 * b + p);
         }
-        b += 1;
+        skip = 0;
     }
     Found::Nothing
 }
@@ -98,6 +91,7 @@ fn wrapped(t: u64, slots: u64) -> u64
 }
 
 // The fingerprint of a quotient and a remainder.
+#[tactic(auto, using(theory::specs::reading::ListingPlaces::join_high, theory::specs::reading::ListingPlaces::join_lt))]
 fn joined(shape: Shape, x: u64, rem: u64) -> u64
     requires { (Widths shape.qbits shape.rbits) × (x < slots shape.qbits) × (rem < 2 ^ shape.rbits) }
     ensures { result ≡ x * 2 ^ shape.rbits + rem }
@@ -123,6 +117,7 @@ fn next_run(buf: &[u8], shape: Shape, x: u64, s: u64, left: u64) -> Place
 }
 
 // The place behind that of quotient x and slot s.
+#[tactic(auto, using(theory::specs::images::Sizes::slots_high))]
 fn next_place(buf: &[u8], shape: Shape, x: u64, s: u64, left: u64) -> Place
     requires { (Whole shape (length buf.now)) × (x < slots shape.qbits) × (s < slots shape.qbits) }
     ensures { Moves shape buf.now x s left result }
@@ -141,6 +136,7 @@ fn next_place(buf: &[u8], shape: Shape, x: u64, s: u64, left: u64) -> Place
 }
 
 // The place of the first of len fingerprints.
+#[tactic(auto, using(crate::specs::Moving::none_first, crate::specs::Moving::missed_first))]
 pub fn first_place(buf: &[u8], shape: Shape, len: u64) -> Place
     requires { Whole shape (length buf.now) }
     ensures { First shape buf.now len result }
@@ -159,6 +155,7 @@ pub fn first_place(buf: &[u8], shape: Shape, len: u64) -> Place
 }
 
 // One step over numbers that passed 1 to 5: the fingerprint of the place, and the place behind it. A place that has no slot is the end.
+#[tactic(auto, using(crate::specs::Moving::none_steps, crate::specs::Moving::outside_steps, crate::specs::Moving::some_steps))]
 pub fn step_core(buf: &[u8], shape: Shape, place: Place) -> Stepped
     requires { Whole shape (length buf.now) }
     ensures { Steps shape buf.now place result }
@@ -183,6 +180,7 @@ pub fn step_core(buf: &[u8], shape: Shape, place: Place) -> Stepped
 }
 
 // A listing's beginning: checked, then the place of the first fingerprint.
+#[tactic(auto, using(layout::specs::Judging::clear_whole))]
 pub fn begin(buf: &[u8], n: Numbers) -> Begun
     ensures { Begins n buf.now result }
 {
@@ -197,6 +195,7 @@ pub fn begin(buf: &[u8], n: Numbers) -> Begun
 }
 
 // One step: numbers 1 to 5 are asked first, and a refused step leaves the place as it was.
+#[tactic(auto, using(layout::specs::Judging::clear_whole, crate::specs::Listing::listed_core))]
 pub fn step_from(buf: &[u8], n: Numbers, place: Place) -> Stepped
     ensures { Listed n buf.now place result }
 {

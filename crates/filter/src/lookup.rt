@@ -18,6 +18,7 @@ pub enum Seen {
 }
 
 // The quotient of the fingerprint that a hash has.
+#[tactic(auto, using(theory::specs::images::Sizes::fingerprint_quotient, theory::specs::images::Sizes::slots_pos))]
 pub fn quotient(shape: Shape, hash: u64) -> u64
     requires { Widths shape.qbits shape.rbits }
     ensures { (result ≡ fingerprint shape.qbits shape.rbits hash / 2 ^ shape.rbits) × (result < slots shape.qbits) }
@@ -26,6 +27,7 @@ pub fn quotient(shape: Shape, hash: u64) -> u64
 }
 
 // The remainder of the fingerprint that a hash has.
+#[tactic(auto, using(theory::specs::images::Sizes::fingerprint_remainder))]
 pub fn remainder(shape: Shape, hash: u64) -> u64
     requires { Widths shape.qbits shape.rbits }
     ensures { (result ≡ fingerprint shape.qbits shape.rbits hash % 2 ^ shape.rbits) × (result < 2 ^ shape.rbits) }
@@ -40,23 +42,21 @@ fn first_equal(buf: &[u8], shape: Shape, at: u64, rem: u64) -> Seen
 {
     let slots = shape.slots();
     let mut k = 0;
-    let seen = loop {
+    // Kept: a scan of a run's slots is a loop left by break.
+    loop {
         let s = (at + k) % slots;
         k += 1;
         if slot::get_remainder(buf, shape, s) == rem {
             break Seen::At(k);
         }
-        if slot::is_runend(buf, shape, s) == 1 {
+        if slot::is_runend(buf, shape, s) == 1 || k == slots {
             break Seen::Absent(k);
         }
-        if k == slots {
-            break Seen::Absent(k);
-        }
-    };
-    seen
+    }
 }
 
 // Where the fingerprint of a hash first stands in its run, or that it is absent.
+#[tactic(auto, using(crate::specs::Lookup::seen_empty))]
 pub fn find_hash(buf: &[u8], shape: Shape, hash: u64) -> Seen
     requires { Whole shape (length buf.now) }
     ensures { Seeks shape buf.now hash result }
@@ -78,21 +78,19 @@ fn count_from(buf: &[u8], shape: Shape, at: u64, from: u64, rem: u64) -> u64
     let slots = shape.slots();
     let mut k = from;
     let mut count = 0;
-    let all = loop {
+    // Kept: a scan of a run's slots is a loop left by break.
+    loop {
         let s = (at + k) % slots;
         k += 1;
         count += equal(slot::get_remainder(buf, shape, s), rem);
-        if slot::is_runend(buf, shape, s) == 1 {
+        if slot::is_runend(buf, shape, s) == 1 || k == slots {
             break count;
         }
-        if k == slots {
-            break count;
-        }
-    };
-    all
+    }
 }
 
 // How often the fingerprint of a hash is held.
+#[tactic(auto, using(crate::specs::Lookup::count_empty))]
 pub fn count_hash(buf: &[u8], shape: Shape, hash: u64) -> u64
     requires { Whole shape (length buf.now) }
     ensures { Counts shape buf.now hash result }

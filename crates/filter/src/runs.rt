@@ -21,6 +21,7 @@ pub enum InBlock {
 }
 
 // The runend looked for in the word w, from its digit `skip` on, with `left` to be passed.
+#[tactic(auto, using(theory::specs::reading::Ring::high_one))]
 fn runend_in(w: u64, skip: u64, left: u64) -> InBlock
     requires { skip < 64 }
     ensures { InWord w skip left result }
@@ -33,32 +34,26 @@ fn runend_in(w: u64, skip: u64, left: u64) -> InBlock
 }
 
 // The n-th runend from slot `at` on, round the end.
+#[tactic(auto, using(theory::specs::images::Sizes::slots_blocks, theory::specs::tools::Total::total_le))]
 fn nth_runend(buf: &[u8], shape: Shape, at: u64, n: u64) -> Found
     requires { (Whole shape (length buf.now)) × (at < 2 ^ 61) }
     ensures { NthRunend (ring_at shape.rbits 9 (slots shape.qbits) (le buf.now)) (slots shape.qbits) at n result }
 {
     let blocks = shape.blocks();
-    let last = at / 64 + blocks;
-    let mut k = at / 64;
     let mut skip = at % 64;
     let mut left = n;
-    while k <= last {
-        let found = runend_in(slot::runends(buf, shape, k % blocks), skip, left);
-        match found {
-            InBlock::End(p) => {
-                return Found::At(64 * k + p);
-            }
-            InBlock::On(rest) => {
-                left = rest;
-            }
+    for k in at / 64..at / 64 + blocks + 1 {
+        match runend_in(slot::runends(buf, shape, k % blocks), skip, left) {
+            InBlock::End(p) => return Found::At(64 * k + p),
+            InBlock::On(rest) => left = rest,
         }
         skip = 0;
-        k += 1;
     }
     Found::Nothing
 }
 
 // The slot behind the run of x, if o is the offset of its block.
+#[tactic(auto, using(theory::specs::images::Sizes::slots_blocks, theory::specs::images::Sizes::slots_high, theory::specs::images::Sizes::slot_block))]
 fn behind_run(buf: &[u8], shape: Shape, x: u64, o: u64) -> Found
     requires { (Whole shape (length buf.now)) × (x < slots shape.qbits) × (o ≤ 2 ^ 60) }
     ensures { Behind (slots shape.qbits) (views_in shape buf.now) x o result }
@@ -75,6 +70,7 @@ fn behind_run(buf: &[u8], shape: Shape, x: u64, o: u64) -> Found
 }
 
 // The carry before the block behind block b, told by the carry o before b: that far the last run of b goes past its last slot.
+#[tactic(auto, using(theory::specs::images::Sizes::slots_blocks, theory::specs::images::Sizes::blocks_high))]
 pub fn next_carry(buf: &[u8], shape: Shape, b: u64, o: u64) -> Found
     requires { (Whole shape (length buf.now)) × (b < blocks shape.qbits) × (o ≤ 2 ^ 60) }
     ensures { NextCarry (slots shape.qbits) (views_in shape buf.now) b o result }
@@ -96,12 +92,10 @@ fn blocks_back(buf: &[u8], shape: Shape, b: u64) -> u64
     ensures { NearestTold (blocks shape.qbits) (views_in shape buf.now) b result }
 {
     let blocks = shape.blocks();
-    let mut k = 1;
-    while k <= blocks {
+    for k in 1..blocks + 1 {
         if slot::offset_byte(buf, shape, (b + blocks - k) % blocks) < 255 {
             return k;
         }
-        k += 1;
     }
     0
 }
@@ -116,19 +110,19 @@ fn calc_offset(buf: &[u8], shape: Shape, b: u64) -> u64
     if back == 0 {
         return 0;
     }
-    let mut j = b + blocks - back;
-    let mut o = slot::offset_byte(buf, shape, j % blocks);
-    while j < b + blocks {
+    let from = b + blocks - back;
+    let mut o = slot::offset_byte(buf, shape, from % blocks);
+    for j in from..b + blocks {
         let Found::At(next) = next_carry(buf, shape, j % blocks, o) else {
             return 0;
         };
         o = next;
-        j += 1;
     }
     o
 }
 
 // The carry before block b.
+#[tactic(auto, using(theory::specs::images::Sizes::slots_blocks, theory::specs::reading::Walks::byte_offset))]
 pub fn offset(buf: &[u8], shape: Shape, b: u64) -> u64
     requires { (Whole shape (length buf.now)) × (b < blocks shape.qbits) }
     ensures { OffsetOf (slots shape.qbits) (views_in shape buf.now) b result }
@@ -141,6 +135,7 @@ pub fn offset(buf: &[u8], shape: Shape, b: u64) -> u64
 }
 
 // How far behind slot s, which is not taken round the end, the slot behind its quotient's run is.
+#[tactic(auto, using(theory::specs::images::Sizes::slot_block))]
 pub fn past_run(buf: &[u8], shape: Shape, s: u64) -> Found
     requires { Whole shape (length buf.now) }
     ensures { PastRun (slots shape.qbits) (views_in shape buf.now) s result }
@@ -153,6 +148,7 @@ pub fn past_run(buf: &[u8], shape: Shape, s: u64) -> Found
 }
 
 // The last slot of the run of x; of an empty run, the slot before the next quotient's.
+#[tactic(auto, using(theory::specs::images::Sizes::slots_high))]
 fn run_end(buf: &[u8], shape: Shape, x: u64) -> u64
     requires { (Whole shape (length buf.now)) × (x < slots shape.qbits) }
     ensures { RunEnd (slots shape.qbits) (views_in shape buf.now) x result }
@@ -173,6 +169,7 @@ fn start_behind(buf: &[u8], shape: Shape, x: u64) -> u64
 }
 
 // The first slot of the run of x, if n runends stand from slot x on before it: the one behind the last of them.
+#[tactic(auto, using(theory::specs::images::Sizes::slots_high))]
 fn start_past(buf: &[u8], shape: Shape, x: u64, n: u64) -> u64
     requires { (Whole shape (length buf.now)) × (x < slots shape.qbits) × (0 < n) × Pending (slots shape.qbits) (views_in shape buf.now) x n }
     ensures { RunStart (slots shape.qbits) (views_in shape buf.now) x result }
@@ -185,6 +182,7 @@ fn start_past(buf: &[u8], shape: Shape, x: u64, n: u64) -> u64
 
 // The first slot of the run of x. Where no run from before the block reaches slot x, it is the one behind the runends of those of the block's runs
 // that are not over at x. They are few, and mostly in its word, which is shifted up by one from x on, with a one below for x itself.
+#[tactic(auto, using(theory::specs::images::Sizes::slots_high, theory::specs::images::Sizes::slot_block))]
 pub fn run_start(buf: &[u8], shape: Shape, x: u64) -> u64
     requires { (Whole shape (length buf.now)) × (x < slots shape.qbits) }
     ensures { RunStart (slots shape.qbits) (views_in shape buf.now) x result }
@@ -224,6 +222,7 @@ pub fn first_free(buf: &[u8], shape: Shape, x: u64) -> Found
 {
     let slots = shape.slots();
     let mut s = x;
+    // Kept: it does not count, it jumps from run to run.
     while s < x + slots {
         let Found::At(gap) = past_run(buf, shape, s) else {
             return Found::Nothing;

@@ -1,26 +1,10 @@
--- `filter::contains::contains_fingerprint`: the check's number, or the core on a sound buffer. Assumes nothing.
-use mathlib.Core.Path.{refl, ap, ◌∙◌}
-use Rattle.layout.specs.Verdicts.{Judged}
-use Rattle.layout.specs.Judging.{checked_refused, checked_sound, clear_whole}
-use Rattle.filter.specs.Says.{lookup_says}
+-- `filter::contains::contains_fingerprint`: the core on a sound buffer. Assumes nothing.
+use Rattle.layout.specs.Judging.{checked_sound, clear_whole}
 use Rattle.filter.specs.Asking.{looked}
-use Rattle.layout.specs.declared.check.Verdict.TheVariants.{Sound}
 use Rattle.filter.proofs.contains.contains_fingerprint.Goals as goal
-use Rattle.filter.proofs.contains.contains_fingerprint.Goals.{In_default}
-
--- the buffer is sound
-sound : (c : In_default) → Judged c.args.n c.args.buf.now Sound
-sound c = c.in_default.ensures
-
-pub returns-in-Refused : goal.returns-in-Refused
-returns-in-Refused c = checked_refused c.args.n _ _ _ _ (c.in-Refused.ensures) refl
-
-pub find_hash-requires : goal.find_hash-requires
-find_hash-requires c =
-    let a = c.args in
-    rw c.shape.ensures (clear_whole a.n a.buf.now (sound (goal.at.find_hash-requires c).In_default).none)
 
 pub returns : goal.returns
 returns c =
     let a = c.args in
-    checked_sound a.n _ _ _ (sound (goal.at.returns c).In_default) (λ l h. ap lookup_says c.lookup_from.ensures ∙ looked a.n a.buf.now l a.hash _ (clear_whole a.n a.buf.now (sound (goal.at.returns c).In_default).none).widths (rw c.shape.ensures at c.find_hash.ensures) h)
+    let h = c.in_default.ensures in
+    rw c.lookup_from.ensures (checked_sound a.n _ _ _ h (λ l. looked a.n a.buf.now l a.hash _ (clear_whole a.n a.buf.now h.none).widths (rw c.shape.ensures at c.find_hash.ensures)))

@@ -1,8 +1,8 @@
 -- `filter::contains::contains_fingerprint_quick`: a number of 1 to 5, or the core. Assumes nothing.
-use mathlib.Core.Path.{◌≡◌, refl, ap, ◌∙◌}
+use mathlib.Core.Path.{◌≡◌, ap, ◌∙◌}
 use native.Mathlib.Omega.{arith}
 use Rattle.layout.specs.Records.{lowest_due}
-use Rattle.layout.specs.Judging.{quick_refused, quick_worked, clear_whole}
+use Rattle.layout.specs.Judging.{quick_worked, clear_whole}
 use Rattle.filter.specs.Says.{lookup_says}
 use Rattle.filter.specs.Asking.{looked}
 use Rattle.filter.proofs.contains.contains_fingerprint_quick.Goals as goal
@@ -11,14 +11,6 @@ use Rattle.filter.proofs.contains.contains_fingerprint_quick.Goals.{Else-due-gt0
 -- none of 1 to 5 is due
 clear : (c : Else-due-gt0) → lowest_due c.args.n c.args.buf.now ≡ 0
 clear c = omega (arith, c.number_due-due.ensures)
-
-pub returns-then-due-gt0 : goal.returns-then-due-gt0
-returns-then-due-gt0 c = quick_refused c.args.n _ _ _ _ _ c.number_due-due.ensures c.if-due-gt0.true refl tt
-
-pub find_hash-requires : goal.find_hash-requires
-find_hash-requires c =
-    let a = c.args in
-    rw c.shape.ensures (clear_whole a.n a.buf.now (clear (goal.at.find_hash-requires c).Else-due-gt0))
 
 pub returns : goal.returns
 returns c =

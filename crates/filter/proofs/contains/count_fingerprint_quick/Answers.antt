@@ -1,8 +1,8 @@
 -- `filter::contains::count_fingerprint_quick`: a number of 1 to 5, or the core. Assumes nothing.
-use mathlib.Core.Path.{◌≡◌, refl}
+use mathlib.Core.Path.{◌≡◌}
 use native.Mathlib.Omega.{arith}
 use Rattle.layout.specs.Records.{lowest_due}
-use Rattle.layout.specs.Judging.{quick_refused, quick_worked, clear_whole}
+use Rattle.layout.specs.Judging.{quick_worked, clear_whole}
 use Rattle.filter.specs.Asking.{counted}
 use Rattle.filter.proofs.contains.count_fingerprint_quick.Goals as goal
 use Rattle.filter.proofs.contains.count_fingerprint_quick.Goals.{Else-due-gt0}
@@ -10,14 +10,6 @@ use Rattle.filter.proofs.contains.count_fingerprint_quick.Goals.{Else-due-gt0}
 -- none of 1 to 5 is due
 clear : (c : Else-due-gt0) → lowest_due c.args.n c.args.buf.now ≡ 0
 clear c = omega (arith, c.number_due-due.ensures)
-
-pub returns-then-due-gt0 : goal.returns-then-due-gt0
-returns-then-due-gt0 c = quick_refused c.args.n _ _ _ _ _ c.number_due-due.ensures c.if-due-gt0.true refl tt
-
-pub count_hash-requires : goal.count_hash-requires
-count_hash-requires c =
-    let a = c.args in
-    rw c.shape.ensures (clear_whole a.n a.buf.now (clear (goal.at.count_hash-requires c).Else-due-gt0))
 
 pub returns : goal.returns
 returns c =

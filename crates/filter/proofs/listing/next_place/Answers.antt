@@ -1,20 +1,12 @@
 -- `filter::listing::next_place`: none remain; behind a run's end; or the next slot (specs/Moving). Assumes nothing.
-use mathlib.Core.Path.{sym, ◌∙◌}
-use native.Mathlib.Omega.{arith}
+use mathlib.Core.Path.{◌∙◌}
 use Rattle.filter.specs.Moving.{none_moves, inner_moves}
-use Rattle.theory.specs.images.Sizes.{slots_high}
 use Rattle.filter.proofs.listing.next_place.Goals as goal
 
 pub returns-then-left-eq0 : goal.returns-then-left-eq0
 returns-then-left-eq0 c =
     let a = c.args in
     rw c.none_left.ensures (none_moves a.shape a.buf.now a.x a.s a.left c.if-left-eq0.true)
-
-pub returns-then-is_runend-eq1 : goal.returns-then-is_runend-eq1
-returns-then-is_runend-eq1 c = c.next_run.ensures (sym c.is_runend.ensures.0 ∙ c.if-is_runend-eq1.true)
-
-pub overflow_add-s : goal.overflow_add-s
-overflow_add-s c = omega (arith, slots_high _ c.requires.0.widths.high)
 
 pub returns : goal.returns
 returns c =

@@ -1,42 +1,19 @@
 -- `filter::lookup::count_from`: the invariant is that k places are passed, and how many of them, from `from` on, are equal (specs/Scan). Assumes nothing.
-use Prim.Native.Nat.{◌+◌, ◌%◌, ◌<◌}
-use mathlib.Core.Path.{sym, ◌∙◌}
+use mathlib.Core.Path.{◌∙◌}
 use native.Mathlib.Omega.{arith}
-use Rattle.theory.specs.Shape.{slots as slots-of}
-use Rattle.theory.specs.Image.{Views}
 use Rattle.layout.specs.Whole.{views_in}
-use Rattle.filter.specs.Scan.{counting_on, counted_end, counted_round}
-use Rattle.theory.specs.images.Sizes.{slot_round}
+use Rattle.filter.specs.Scan.{counting_on, counted_over}
 use Rattle.filter.proofs.lookup.count_from.Goals as goal
-use Rattle.filter.proofs.lookup.count_from.Goals.{At-loop-shape}
-
-abbrev seen : At-loop-shape → Views
-seen c = views_in c.args.shape c.args.buf.now
-
--- the slot of the turn
-in-round : (c : At-loop-shape) → (c.args.at + c.loop-shape.k) % c.slots-slots.result < slots-of c.args.shape.qbits
-in-round c = slot_round _ _ (c.args.at + c.loop-shape.k) c.slots-slots.ensures.0
-
-pub get_remainder-requires : goal.get_remainder-requires
-get_remainder-requires c = (c.requires.0, in-round (goal.at.get_remainder-requires c).At-loop-shape)
-
-pub is_runend-requires : goal.is_runend-requires
-is_runend-requires c = (c.requires.0, in-round (goal.at.is_runend-requires c).At-loop-shape)
 
 pub loop-shape-preserved : goal.loop-shape-preserved
 loop-shape-preserved c =
-    let e = c.slots-slots.ensures.0 in
+    let a = c.args in
     let q = c.equal-count.ensures in
-    (omega arith, counting_on _ (seen (goal.at.loop-shape-preserved c).At-loop-shape) _ _ _ c.loop-shape.k _ _ _ c.loop-shape.invariant.1 (rw e at c.get_remainder.ensures.0) q.0 q.1 q.2 (λ y. c.if-is_runend-eq1.false (rw e at c.is_runend.ensures.0 ∙ y)))
+    (omega arith, counting_on _ (views_in a.shape a.buf.now) _ _ _ c.loop-shape.k _ _ _ c.loop-shape.invariant.1 c.get_remainder.ensures.0 q.0 q.1 q.2 (λ y. c.if-is_runend-eq1.false (c.is_runend.ensures.0 ∙ y)))
 
-pub returns-then-is_runend-eq1 : goal.returns-then-is_runend-eq1
-returns-then-is_runend-eq1 c =
-    let e = c.slots-slots.ensures.0 in
+pub returns : goal.returns
+returns c =
+    let a = c.args in
     let q = c.equal-count.ensures in
-    counted_end _ (seen (goal.at.returns-then-is_runend-eq1 c).At-loop-shape) _ _ _ c.loop-shape.k _ _ _ c.loop-shape.invariant.1 (rw e at c.get_remainder.ensures.0) q.0 q.1 q.2 (sym (rw e at c.is_runend.ensures.0) ∙ c.if-is_runend-eq1.true) c.loop-shape.invariant.0
-
-pub returns-then-k-slots : goal.returns-then-k-slots
-returns-then-k-slots c =
-    let e = c.slots-slots.ensures.0 in
-    let q = c.equal-count.ensures in
-    counted_round _ (seen (goal.at.returns-then-k-slots c).At-loop-shape) _ _ _ (c.loop-shape.k + 1) _ (omega arith) (counting_on _ (seen (goal.at.returns-then-k-slots c).At-loop-shape) _ _ _ c.loop-shape.k _ _ _ c.loop-shape.invariant.1 (rw e at c.get_remainder.ensures.0) q.0 q.1 q.2 (λ y. c.if-is_runend-eq1.false (rw e at c.is_runend.ensures.0 ∙ y)))
+    rw (← c.slots-slots.ensures.0)
+    (counted_over _ (views_in a.shape a.buf.now) _ _ _ c.loop-shape.k _ _ _ c.loop-shape.invariant.1 c.get_remainder.ensures.0 q.0 q.1 q.2 _ c.is_runend.ensures.0 (omega arith) c.then-is_runend-eq1.either)

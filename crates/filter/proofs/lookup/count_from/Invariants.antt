@@ -1,12 +1,11 @@
 -- `filter::lookup::count_from`: the invariant is that k places are passed, and how many of them, from `from` on, are equal (specs/Scan). Assumes nothing.
 use Prim.Native.Nat.{◌-◌, ◌<◌}
-use Rattle.theory.specs.Shape.{slots as slots-of}
 use Rattle.layout.specs.Whole.{views_in}
 use Rattle.filter.specs.Scan.{Counting}
 use Rattle.filter.proofs.lookup.count_from.Given as goal
 
 abbrev pub invariant-loop-shape : goal.invariant-loop-shape
-invariant-loop-shape l = (l.k < slots-of l.shape.qbits) × (Counting (slots-of l.shape.qbits) (views_in l.shape l.buf) l.at l.from l.rem l.k l.count)
+invariant-loop-shape l = (l.k < l.slots) × Counting l.slots (views_in l.shape l.buf) l.at l.from l.rem l.k l.count
 
 abbrev pub decreases-loop-shape : goal.decreases-loop-shape
 decreases-loop-shape l = l.slots - l.k

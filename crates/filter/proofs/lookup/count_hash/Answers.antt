@@ -1,32 +1,14 @@
 -- `filter::lookup::count_hash`: an empty run, a miss, or all from the first equal one on (specs/Lookup, specs/Scan). Assumes nothing.
 use mathlib.Core.Path.{sym, ◌∙◌}
-use native.Mathlib.Omega.{arith}
-use Rattle.filter.specs.Lookup.{shown_run, shown_few, count_run, count_empty}
-use Rattle.filter.specs.Scan.{Sought, counted_all, counted_none}
-use Rattle.filter.specs.declared.lookup.Seen.TheVariants.{At}
+use Rattle.filter.specs.Lookup.{shown_run, shown_few, count_run}
+use Rattle.filter.specs.Scan.{counted_all, counted_none}
 use Rattle.filter.proofs.lookup.count_hash.Goals as goal
-
-pub returns-then-is_occupied-eq0 : goal.returns-then-is_occupied-eq0
-returns-then-is_occupied-eq0 c =
-    let a = c.args in
-    let q = c.quotient-x.ensures in
-    λ l w. count_empty a.shape a.buf.now l w _ q.1 _ (sym q.0) (sym c.is_occupied.ensures.0 ∙ c.if-is_occupied-eq0.true)
 
 pub returns-in_default : goal.returns-in_default
 returns-in_default c =
     let a = c.args in
     let q = c.quotient-x.ensures in
     λ l w. count_run a.shape a.buf.now l w _ q.1 _ _ (sym q.0) (rw (← c.remainder-rem.ensures.0) (counted_none _ _ _ (sym c.in_default.is ∙ c.first_equal.ensures.right _ (shown_run a.shape a.buf.now l w _ q.1 _ (λ z. c.if-is_occupied-eq0.false (c.is_occupied.ensures.0 ∙ z)) c.run_start-at.ensures) (shown_few a.shape a.buf.now l w _ q.1))))
-
-pub overflow_sub-k : goal.overflow_sub-k
-overflow_sub-k c =
-    let t : Sought _ _ _ _ (At c.in-At.k) = c.in-At.ensures in
-    omega (arith, t.bound)
-
-pub count_from-requires : goal.count_from-requires
-count_from-requires c =
-    let t : Sought _ _ _ _ (At c.in-At.k) = c.in-At.ensures in
-    (c.requires, c.run_start-at.ensures.bound, omega (arith, t.bound))
 
 pub returns : goal.returns
 returns c =

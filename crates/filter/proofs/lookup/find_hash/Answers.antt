@@ -1,13 +1,7 @@
 -- `filter::lookup::find_hash`: an empty run, or the scan from its first slot (specs/Lookup). Assumes nothing.
-use mathlib.Core.Path.{sym, ◌∙◌}
-use Rattle.filter.specs.Lookup.{seen_empty, shown_run, shown_few}
+use mathlib.Core.Path.{◌∙◌}
+use Rattle.filter.specs.Lookup.{shown_run, shown_few}
 use Rattle.filter.proofs.lookup.find_hash.Goals as goal
-
-pub returns-then-is_occupied-eq0 : goal.returns-then-is_occupied-eq0
-returns-then-is_occupied-eq0 c =
-    let a = c.args in
-    let q = c.quotient-x.ensures in
-    λ l w. rw (← q.0) (seen_empty a.shape a.buf.now l w _ q.1 _ (sym c.is_occupied.ensures.0 ∙ c.if-is_occupied-eq0.true))
 
 pub returns : goal.returns
 returns c =

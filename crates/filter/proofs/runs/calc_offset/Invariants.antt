@@ -1,12 +1,9 @@
 -- `filter::runs::calc_offset`: the invariant is that o is the carry before block j, round the end (specs/Offsets). Assumes nothing.
-use Prim.Native.Nat.{◌+◌, ◌-◌, ◌^◌, ◌≤◌}
+use Prim.Native.Nat.{◌^◌, ◌≤◌}
 use Rattle.theory.specs.Shape.{slots}
 use Rattle.layout.specs.Whole.{views_in}
 use Rattle.theory.specs.reading.Walks.{Tells}
 use Rattle.filter.proofs.runs.calc_offset.Given as goal
 
 abbrev pub invariant-loop-j : goal.invariant-loop-j
-invariant-loop-j l = (l.j ≤ l.b + l.blocks) × (l.o ≤ 2 ^ 60) × Tells (slots l.shape.qbits) (views_in l.shape l.buf) l.j l.o
-
-abbrev pub decreases-loop-j : goal.decreases-loop-j
-decreases-loop-j l = l.b + l.blocks - l.j
+invariant-loop-j l = (l.o ≤ 2 ^ 60) × Tells (slots l.shape.qbits) (views_in l.shape l.buf) l.j l.o

@@ -1,5 +1,5 @@
 -- `filter::runs::nth_runend`: a word a turn. The invariant: what was to be passed from `at` on is what is left from digit `skip` of block k on. Assumes nothing.
-use Prim.Native.Nat.{◌+◌, ◌-◌, ◌*◌, ◌/◌, ◌≤◌, ◌<◌}
+use Prim.Native.Nat.{◌+◌, ◌*◌, ◌≤◌, ◌<◌}
 use mathlib.Core.Path.{◌≡◌}
 use Rattle.theory.specs.tools.Total.{total}
 use Rattle.theory.specs.Shape.{slots}
@@ -8,7 +8,4 @@ use Rattle.theory.specs.reading.Ring.{ring_at}
 use Rattle.filter.proofs.runs.nth_runend.Given as goal
 
 abbrev pub invariant-loop-k : goal.invariant-loop-k
-invariant-loop-k l = (l.at / 64 ≤ l.k) × (l.k ≤ l.last + 1) × (l.skip < 64) × (l.at ≤ 64 * l.k + l.skip) × (total (ring_at l.shape.rbits 9 (slots l.shape.qbits) (le l.buf)) (64 * l.k + l.skip) + l.left ≡ total (ring_at l.shape.rbits 9 (slots l.shape.qbits) (le l.buf)) l.at + l.n)
-
-abbrev pub decreases-loop-k : goal.decreases-loop-k
-decreases-loop-k l = l.last + 1 - l.k
+invariant-loop-k l = (l.skip < 64) × (l.at ≤ 64 * l.k + l.skip) × (total (ring_at l.shape.rbits 9 (slots l.shape.qbits) (le l.buf)) (64 * l.k + l.skip) + l.left ≡ total (ring_at l.shape.rbits 9 (slots l.shape.qbits) (le l.buf)) l.at + l.n)

@@ -4,10 +4,8 @@ use Rattle.theory.specs.Shape.{slots}
 use Rattle.theory.specs.number.Bytes.{le}
 use Rattle.theory.specs.images.Block.{word_at}
 use Rattle.layout.specs.Whole.{views_in}
-use Rattle.theory.specs.images.Sizes.{slots_blocks, slots_high, slot_block}
+use Rattle.theory.specs.images.Sizes.{slots_blocks}
 use Rattle.theory.specs.reading.StartNear.{Pending, pending_near, never_near, start_near, some_near}
-use Rattle.bits.specs.Select.{Selected}
-use Rattle.bits.specs.declared.select.Nth.TheVariants.{At}
 use Rattle.filter.proofs.runs.run_start.Goals as goal
 use Rattle.filter.proofs.runs.run_start.Goals.{Else-begun-over}
 
@@ -21,15 +19,6 @@ pending c =
 from : (c : Else-begun-over) → c.runends-word.result / 2 ^ (c.args.x % 64) * 2 ^ 1 % 2 ^ 64 + 1 ≡ word_at c.args.shape.rbits 9 (le c.args.buf.now) (c.args.x / 64) / 2 ^ (c.args.x % 64) * 2 ^ 1 % 2 ^ 64 + 1
 from c = ap (λ w. w / 2 ^ (c.args.x % 64) * 2 ^ 1 % 2 ^ 64 + 1) c.runends-word.ensures
 
-pub offset_byte-o-requires : goal.offset_byte-o-requires
-offset_byte-o-requires c = (c.requires.0, slot_block _ _ c.requires.0.widths.low c.requires.1)
-
-pub runends-word-requires : goal.runends-word-requires
-runends-word-requires c = (c.requires.0, slot_block _ _ c.requires.0.widths.low c.requires.1)
-
-pub occupieds-requires : goal.occupieds-requires
-occupieds-requires c = (c.requires.0, slot_block _ _ c.requires.0.widths.low c.requires.1)
-
 pub returns-then-begun-over : goal.returns-then-begun-over
 returns-then-begun-over c =
     never_near _ _ _ _ _ (slots_blocks _ c.requires.0.widths.low) c.requires.1 _ _ _ c.offset_byte-o.ensures.0 (omega arith)
@@ -39,11 +28,6 @@ pub start_past-requires : goal.start_past-requires
 start_past-requires c =
     let p = (goal.at.start_past-requires c).Else-begun-over in
     (c.requires.0, c.requires.1, some_near _ _ _ _ _ (slots_blocks _ c.requires.0.widths.low) c.requires.1 _ _ (from p) (pending p) c.in_default.ensures, pending p)
-
-pub overflow_add-result : goal.overflow_add-result
-overflow_add-result c =
-    let t : Selected _ _ (At c.in-At.p) = c.in-At.ensures in
-    omega (arith, slots_high _ c.requires.0.widths.high, c.requires.1, t.0)
 
 pub returns : goal.returns
 returns c =
