@@ -1,5 +1,5 @@
 -- The promises of lookup and count (docs/RULES.md, "Lookup and count").
-use Rattle.std.specs.Prelude.{ℕ, ◌/◌, ◌%◌, ◌^◌, ◌≤◌, min, ◌≡◌, List}
+use Rattle.std.specs.Prelude.{Result, Ok, ℕ, ◌/◌, ◌%◌, ◌^◌, ◌≤◌, min, ◌≡◌, List}
 use Rattle.std.proofs.Common.{sym, ap, ◌∙◌, arith, pow_pos}
 use Rattle.std.proofs.Math.Decide.{dec_le}
 use Rattle.theory.specs.tools.Choose.{choose}
@@ -9,12 +9,10 @@ use Rattle.theory.specs.Holding.{copies, run, seek}
 use Rattle.theory.specs.list.Seek.{copies_run}
 use Rattle.theory.proofs.check.Decides.{holds_image}
 use Rattle.layout.specs.declared.numbers.Numbers.{Numbers}
+use Rattle.layout.specs.declared.refusal.Refusal.{Refusal}
 use Rattle.layout.specs.Records.{shape_of, HoldsOf, fingerprint_of, Answers, AnswersQuick}
-use Rattle.filter.specs.declared.lookup.Seen.{Seen}
-use Rattle.filter.specs.declared.lookup.Seen.TheVariants as seen
-use Rattle.filter.specs.declared.contains.Lookup.{Lookup}
-use Rattle.filter.specs.declared.contains.Lookup.TheVariants.{Held, Absent}
-use Rattle.filter.specs.declared.contains.Counting.{Counting}
+use Rattle.filter.specs.declared.lookup.Lookup.{Lookup}
+use Rattle.filter.specs.declared.lookup.Lookup.TheVariants.{Held, Absent}
 use Rattle.filter.specs.Says.{lookup_says, counting_says}
 use Rattle.filter.specs.Lookup.{Shows, Seeks, Counts}
 
@@ -26,33 +24,29 @@ run_of n f l = run (2 ^ n.rbits) l (f / 2 ^ n.rbits)
 abbrev pub lookup_of : Numbers → ℕ → List ℕ → Looked
 lookup_of n f l = record { held = min 1 (copies f l); compared = seek (f % 2 ^ n.rbits) (run_of n f l) }
 
-abbrev pub Contains : Numbers → List ℕ → ℕ → Lookup → Type 0
+abbrev pub Contains : Numbers → List ℕ → ℕ → Result Lookup Refusal → Type 0
 Contains n s hash a = Answers n s (lookup_of n (fingerprint_of n hash)) (lookup_says a)
 
-abbrev pub ContainsQuick : Numbers → List ℕ → ℕ → Lookup → Type 0
+abbrev pub ContainsQuick : Numbers → List ℕ → ℕ → Result Lookup Refusal → Type 0
 ContainsQuick n s hash a = AnswersQuick n s (lookup_of n (fingerprint_of n hash)) (lookup_says a)
 
 -- the count is the exact multiplicity
-abbrev pub Count : Numbers → List ℕ → ℕ → Counting → Type 0
+abbrev pub Count : Numbers → List ℕ → ℕ → Result ℕ Refusal → Type 0
 Count n s hash a = Answers n s (copies (fingerprint_of n hash)) (counting_says a)
 
-abbrev pub CountQuick : Numbers → List ℕ → ℕ → Counting → Type 0
+abbrev pub CountQuick : Numbers → List ℕ → ℕ → Result ℕ Refusal → Type 0
 CountQuick n s hash a = AnswersQuick n s (copies (fingerprint_of n hash)) (counting_says a)
 
 -- ---- how the code comes to it
-abbrev pub lookup_from : Seen → Lookup
-lookup_from (seen.At k) = Held k
-lookup_from (seen.Absent k) = Absent k
-
 -- a buffer that is the image of l shows l
 pub holds_shows : (n : Numbers) (s l : List ℕ) → Widths n.qbits n.rbits → HoldsOf n s l → Shows (shape_of n) s l
 holds_shows n s l w h = record { holding = h.holding; image = holds_image n.qbits n.rbits n.len w s l h }
 
-pub looked : (n : Numbers) (s l : List ℕ) (hash : ℕ) (a : Seen) → Widths n.qbits n.rbits → Seeks (shape_of n) s hash a → HoldsOf n s l
-    → lookup_says (lookup_from a) ≡ gives (lookup_of n (fingerprint_of n hash) l)
+pub looked : (n : Numbers) (s l : List ℕ) (hash : ℕ) (a : Lookup) → Widths n.qbits n.rbits → Seeks (shape_of n) s hash a → HoldsOf n s l
+    → lookup_says (Ok a) ≡ gives (lookup_of n (fingerprint_of n hash) l)
 unfolding choose
 looked n s l hash a w k h =
-    ap (λ (z : Seen). lookup_says (lookup_from z)) (k l (holds_shows n s l w h)) ∙ go (dec_le 1 (copies rem (run_of n f l)))
+    ap (λ (z : Lookup). lookup_says (Ok z)) (k l (holds_shows n s l w h)) ∙ go (dec_le 1 (copies rem (run_of n f l)))
     ∙ ap (λ z. gives (record { held = min 1 z; compared = seek rem (run_of n f l) })) (sym (copies_run (2 ^ n.rbits) (pow_pos n.rbits) f l))
   where
     f : ℕ
@@ -61,7 +55,7 @@ looked n s l hash a w k h =
     rem : ℕ
     rem = f % 2 ^ n.rbits
 
-    go : (d : Dec (1 ≤ copies rem (run_of n f l))) → lookup_says (lookup_from (choose d (seen.At (seek rem (run_of n f l))) (seen.Absent (seek rem (run_of n f l)))))
+    go : (d : Dec (1 ≤ copies rem (run_of n f l))) → lookup_says (Ok (choose d (Held (seek rem (run_of n f l))) (Absent (seek rem (run_of n f l)))))
         ≡ gives (record { held = min 1 (copies rem (run_of n f l)); compared = seek rem (run_of n f l) })
     go (yes y) = ap (λ z. gives (record { held = z; compared = seek rem (run_of n f l) })) (omega arith)
     go (no y) = ap (λ z. gives (record { held = z; compared = seek rem (run_of n f l) })) (omega arith)

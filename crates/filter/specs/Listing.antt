@@ -1,14 +1,14 @@
 -- The promises of a listing: its beginning and its steps.
-use Rattle.std.specs.Prelude.{ℕ, suc, ◌-◌, ◌<◌, min, ◌≡◌, refl, List, length, get_or}
+use Rattle.std.specs.Prelude.{Result, Err, ℕ, suc, ◌-◌, ◌<◌, min, ◌≡◌, refl, List, length, get_or}
 use Rattle.std.proofs.Common.{sym, ap, ◌∙◌, arith}
 use Rattle.std.proofs.Math.Decide.{dec_lt}
 use Rattle.std.proofs.Math.ListN.{get_or-eq_default}
 use Rattle.theory.specs.Answer.{Answer, gives, refuses, Next, no_next}
 use Rattle.layout.specs.declared.numbers.Numbers.{Numbers}
+use Rattle.layout.specs.declared.refusal.Refusal.{Refusal}
 use Rattle.filter.specs.declared.listing.Place.{Place}
-use Rattle.filter.specs.declared.listing.Step.TheVariants as step
 use Rattle.filter.specs.declared.listing.Stepped.{Stepped}
-use Rattle.filter.specs.declared.listing.Begun.{Begun}
+use Rattle.layout.specs.Refusals.{number, number_some}
 use Rattle.layout.specs.Records.{lowest_due, Answers, HoldsOf, shape_of}
 use Rattle.layout.specs.Judging.{clear_whole}
 use Rattle.filter.specs.Says.{begun_says, step_says, step_tells}
@@ -17,7 +17,7 @@ use Rattle.filter.specs.Lookup.{Shows}
 use Rattle.filter.specs.Places.{stepped, nowhere, done, place_of, step_of, First, Steps, step_some, step_none, place_none}
 
 -- a beginning is checked: the place after no steps
-abbrev pub Begins : Numbers → List ℕ → Begun → Type 0
+abbrev pub Begins : Numbers → List ℕ → Result Place Refusal → Type 0
 Begins n s a = Answers n s (λ l. place_of n.qbits n.rbits l 0) (begun_says a)
 
 -- step k gives the fingerprint with the number k, counted from 0, or is done
@@ -68,11 +68,11 @@ module _ (n : Numbers) (s : List ℕ) (e : lowest_due n s ≡ 0) where
   pub begins_at : (p : Place) → First (shape_of n) s n.len p → (l : List ℕ) → HoldsOf n s l → gives p ≡ gives (place_of n.qbits n.rbits l 0)
   begins_at p f l h = ap gives (f l (shows l h) (sym h.many))
 
-pub listed_refused : (n : Numbers) (s : List ℕ) (p : Place) (k : ℕ) → k ≡ lowest_due n s → 0 < k → Listed n s p (stepped (step.Refused k) p)
-listed_refused n s p k e h = record {
-  refused = λ _. record { says = ap refuses e; place = refl };
-  stays = λ z _. absurd (omega arith);
-  right = λ z _ _ _ _. absurd (omega arith);
+pub listed_refused : (n : Numbers) (s : List ℕ) (p : Place) (r : Refusal) → lowest_due n s ≡ number r → Listed n s p (stepped (Err r) p)
+listed_refused n s p r e = record {
+  refused = λ _. record { says = ap refuses (sym e); place = refl };
+  stays = λ z _. absurd (omega (arith, number_some r));
+  right = λ z _ _ _ _. absurd (omega (arith, number_some r));
 }
 
 -- a step from the place after k steps is step k

@@ -14,8 +14,8 @@ use Rattle.theory.specs.images.ByViews.{Image, many_at}
 use Rattle.theory.specs.reading.BehindRun.{Runs, image_runs}
 use Rattle.theory.specs.reading.RunAt.{image_run, run_few}
 use Rattle.layout.specs.declared.shape.Shape.{Shape}
-use Rattle.filter.specs.declared.lookup.Seen.{Seen}
-use Rattle.filter.specs.declared.lookup.Seen.TheVariants.{Absent}
+use Rattle.filter.specs.declared.lookup.Lookup.{Lookup}
+use Rattle.filter.specs.declared.lookup.Lookup.TheVariants.{Absent}
 use Rattle.theory.specs.reading.Walks.{RunStart}
 use Rattle.filter.specs.Scan.{seen_in, RunIn}
 
@@ -25,7 +25,7 @@ pub record Shows (h : Shape) (s l : List ℕ) : Type 0 where
   pub image : Image (slots h.qbits) (2 ^ h.rbits) l (views_in h s)
 
 -- what a scan of the run of the hash's quotient finds, if the buffer is an image
-abbrev pub Seeks : Shape → List ℕ → ℕ → Seen → Type 0
+abbrev pub Seeks : Shape → List ℕ → ℕ → Lookup → Type 0
 Seeks h s hash a = (l : List ℕ) → Shows h s l
     → a ≡ seen_in (fingerprint h.qbits h.rbits hash % 2 ^ h.rbits) (run (2 ^ h.rbits) l (fingerprint h.qbits h.rbits hash / 2 ^ h.rbits))
 

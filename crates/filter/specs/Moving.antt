@@ -1,5 +1,5 @@
 -- How the listing moves on in a buffer that is an image: from place to place, whichever way the code goes. Assumes nothing.
-use Rattle.std.specs.Prelude.{ℕ, suc, ◌+◌, ◌-◌, ◌*◌, ◌%◌, ◌^◌, ◌≤◌, ◌<◌, max, ◌≡◌, List, length, get_or}
+use Rattle.std.specs.Prelude.{Some, Ok, ℕ, suc, ◌+◌, ◌-◌, ◌*◌, ◌%◌, ◌^◌, ◌≤◌, ◌<◌, max, ◌≡◌, List, length, get_or}
 use Rattle.std.proofs.Common.{sym, ap, ap₂, ◌∙◌, arith, mod-lt, add-zero, pow_pos}
 use Rattle.std.proofs.Math.Decide.{dec_lt}
 use Rattle.std.proofs.Math.Nat.{mod-add-mod}
@@ -12,7 +12,6 @@ use Rattle.theory.specs.images.ByViews.{many_round}
 use Rattle.theory.specs.reading.ListingPlaces.{kth, kth_is, kth_few, kth_quotient, kth_slot, kth_inner, kth_next, kth_last, kth_first, none_held, start_next, run_within}
 use Rattle.layout.specs.declared.shape.Shape.{Shape}
 use Rattle.filter.specs.declared.listing.Place.{Place}
-use Rattle.filter.specs.declared.listing.Step.TheVariants.{Fingerprint}
 use Rattle.filter.specs.declared.listing.Stepped.{Stepped}
 use Rattle.filter.specs.Lookup.{Shows, shown_runs}
 use Rattle.theory.specs.reading.Walks.{RunStart, Unrolled, unrolled_is}
@@ -181,13 +180,13 @@ module _ (h : Shape) (b : List ℕ) where
         never (stands_within h b l w k p.quotient p.slot t) (stands_slot h b l w k p.quotient p.slot t))
 
   pub some_steps : (p p' : Place) (f : ℕ) → (p.remaining ≡ 0 → ⊥) → f ≡ p.quotient * 2 ^ h.rbits + (views_in h b).remainder p.slot
-      → Moves h b p.quotient p.slot (p.remaining - 1) p' → Steps h b p (stepped (Fingerprint f) p')
+      → Moves h b p.quotient p.slot (p.remaining - 1) p' → Steps h b p (stepped (Ok (Some f)) p')
   some_steps p p' f some e next = record { stays = λ z. absurd (some (ap (λ (y : Place). y.remaining) z)); right = right }
     where
-      right : (l : List ℕ) → Shows h b l → (k : ℕ) → p ≡ place_of h.qbits h.rbits l k → stepped (Fingerprint f) p' ≡ step_of h.qbits h.rbits l k
+      right : (l : List ℕ) → Shows h b l → (k : ℕ) → p ≡ place_of h.qbits h.rbits l k → stepped (Ok (Some f)) p' ≡ step_of h.qbits h.rbits l k
       right l w k z =
           let g = ap (λ (y : Place). y.remaining) z ∙ place_left h.qbits h.rbits l k in
           let c : k < length l = omega arith in
           let t = stands h b l w k p z c in
-          ap₂ (λ a y. stepped (Fingerprint a) y) (fingerprint_at h b l w k p.quotient p.slot t f e) (next l w k t (omega arith))
+          ap₂ (λ a y. stepped (Ok (Some a)) y) (fingerprint_at h b l w k p.quotient p.slot t f e) (next l w k t (omega arith))
           ∙ sym (step_some h.qbits h.rbits l k c)

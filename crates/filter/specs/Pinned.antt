@@ -1,26 +1,24 @@
 -- What the promises of this crate's public calls pin down: of each, any two outcomes (the answer with its record, and every lent byte where the call writes) that keep its promise coincide.
 -- Checked calls: for all inputs. Quick calls: where a number 1 to 5 is due or the buffer is sound. Steps of a listing: there, from any place of the list held and from its end.
 -- What is left open is in docs/EXCEPTIONS.md. Assumes nothing.
-use Rattle.std.specs.Prelude.{ℕ, suc, ◌<◌, ◌≡◌, ◌⊎◌, List}
+use Rattle.std.specs.Prelude.{Result, ℕ, suc, ◌<◌, ◌≡◌, ◌⊎◌, List}
 use Rattle.std.proofs.Common.{sym, ap, subst, ◌∙◌, inl, inr, arith, eq-zero-or-pos}
 use Rattle.std.specs.Borrow.{Bor}
 use Rattle.theory.specs.Answer.{Answer, gives, refuses}
 use Rattle.theory.specs.Holding.{copies}
 use Rattle.theory.specs.refusals.Demands.{checked_one, quick_one, quick_checked}
 use Rattle.layout.specs.declared.numbers.Numbers.{Numbers}
+use Rattle.layout.specs.declared.refusal.Refusal.{Refusal}
 use Rattle.layout.specs.Records.{lowest_due, Answers, AnswersQuick, fingerprint_of, HoldsOf}
 use Rattle.layout.specs.Outcomes.{Settled}
-use Rattle.filter.specs.declared.contains.Lookup.{Lookup}
-use Rattle.filter.specs.declared.contains.Counting.{Counting}
+use Rattle.filter.specs.declared.lookup.Lookup.{Lookup}
 use Rattle.filter.specs.declared.listing.Place.{Place}
-use Rattle.filter.specs.declared.listing.Step.{Step}
 use Rattle.filter.specs.declared.listing.Stepped.{Stepped}
-use Rattle.filter.specs.declared.listing.Begun.{Begun}
 use Rattle.filter.specs.declared.reader.Reader.{Reader}
 use Rattle.filter.specs.declared.reader.Two.{Two}
 use Rattle.filter.specs.Says.{lookup_says, lookup_tells, counting_says, counting_tells, begun_says, begun_tells}
 use Rattle.filter.specs.Asking.{Contains, ContainsQuick, Count, CountQuick, lookup_of}
-use Rattle.filter.specs.Places.{stepped, nowhere, place_of}
+use Rattle.filter.specs.Places.{Step, stepped, nowhere, place_of}
 use Rattle.filter.specs.Listing.{Begins, Listed, step_is_one}
 use Rattle.filter.specs.Reading.{Moved, TwoListed}
 
@@ -44,19 +42,19 @@ module _ {E A : Type 0} (says : E → Answer A) (tells : (a b : E) → says a �
   pub quick_checked_answer : Settled n s → (a b : E) → AnswersQuick n s right (says a) → Answers n s right (says b) → a ≡ b
   quick_checked_answer = quick_checked No Right _ _ _ _ s (λ k. one) (λ l h. one) (λ _. Unit {0})
 
-pub contains_fingerprint_pinned : (n : Numbers) (s : List ℕ) (hash : ℕ) (a b : Lookup) → Contains n s hash a → Contains n s hash b → a ≡ b
+pub contains_fingerprint_pinned : (n : Numbers) (s : List ℕ) (hash : ℕ) (a b : Result Lookup Refusal) → Contains n s hash a → Contains n s hash b → a ≡ b
 contains_fingerprint_pinned n s hash = checked_answer lookup_says lookup_tells (lookup_of n (fingerprint_of n hash)) n s
 
-pub contains_fingerprint_quick_pinned : (n : Numbers) (s : List ℕ) (hash : ℕ) → Settled n s → (a b : Lookup) → ContainsQuick n s hash a → ContainsQuick n s hash b → a ≡ b
+pub contains_fingerprint_quick_pinned : (n : Numbers) (s : List ℕ) (hash : ℕ) → Settled n s → (a b : Result Lookup Refusal) → ContainsQuick n s hash a → ContainsQuick n s hash b → a ≡ b
 contains_fingerprint_quick_pinned n s hash = quick_answer lookup_says lookup_tells (lookup_of n (fingerprint_of n hash)) n s
 
-pub count_fingerprint_pinned : (n : Numbers) (s : List ℕ) (hash : ℕ) (a b : Counting) → Count n s hash a → Count n s hash b → a ≡ b
+pub count_fingerprint_pinned : (n : Numbers) (s : List ℕ) (hash : ℕ) (a b : Result ℕ Refusal) → Count n s hash a → Count n s hash b → a ≡ b
 count_fingerprint_pinned n s hash = checked_answer counting_says counting_tells (copies (fingerprint_of n hash)) n s
 
-pub count_fingerprint_quick_pinned : (n : Numbers) (s : List ℕ) (hash : ℕ) → Settled n s → (a b : Counting) → CountQuick n s hash a → CountQuick n s hash b → a ≡ b
+pub count_fingerprint_quick_pinned : (n : Numbers) (s : List ℕ) (hash : ℕ) → Settled n s → (a b : Result ℕ Refusal) → CountQuick n s hash a → CountQuick n s hash b → a ≡ b
 count_fingerprint_quick_pinned n s hash = quick_answer counting_says counting_tells (copies (fingerprint_of n hash)) n s
 
-pub begin_pinned : (n : Numbers) (s : List ℕ) (a b : Begun) → Begins n s a → Begins n s b → a ≡ b
+pub begin_pinned : (n : Numbers) (s : List ℕ) (a b : Result Place Refusal) → Begins n s a → Begins n s b → a ≡ b
 begin_pinned n s = checked_answer begun_says begun_tells (λ l. place_of n.qbits n.rbits l 0) n s
 
 -- ---- steps of a listing

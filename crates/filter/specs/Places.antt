@@ -1,5 +1,5 @@
 -- The places of a listing, one for each number of steps taken, and what the step does between them.
-use Rattle.std.specs.Prelude.{ℕ, suc, ◌+◌, ◌-◌, ◌%◌, ◌^◌, ◌≤◌, ◌<◌, ◌≡◌, refl, List, [], ◌∷◌, length, get_or}
+use Rattle.std.specs.Prelude.{Option, Some, None, Result, Ok, ℕ, suc, ◌+◌, ◌-◌, ◌%◌, ◌^◌, ◌≤◌, ◌<◌, ◌≡◌, refl, List, [], ◌∷◌, length, get_or}
 use Rattle.std.proofs.Common.{ap, ◌∙◌, arith}
 use Rattle.std.proofs.Math.Decide.{dec_lt, ℕ_discrete}
 use Rattle.theory.specs.tools.Choose.{choose, choose_yes, choose_no}
@@ -10,12 +10,15 @@ use Rattle.theory.specs.Image.{many, start, carry, walk, run_at}
 use Rattle.theory.specs.Listing.{quotient_at, slot_at}
 use Rattle.layout.specs.Whole.{views_in}
 use Rattle.theory.specs.reading.ListingPlaces.{Kth}
+use Rattle.layout.specs.declared.refusal.Refusal.{Refusal}
 use Rattle.layout.specs.declared.shape.Shape.{Shape}
 use Rattle.filter.specs.declared.listing.Place.{Place}
-use Rattle.filter.specs.declared.listing.Step.{Step}
-use Rattle.filter.specs.declared.listing.Step.TheVariants.{Fingerprint, Done}
 use Rattle.filter.specs.declared.listing.Stepped.{Stepped}
 use Rattle.filter.specs.Lookup.{Shows}
+
+-- what a step answers: the next fingerprint, none where the listing is done, or a refusal
+abbrev pub Step : Type 0
+Step = Result (Option ℕ) Refusal
 
 -- an answer and a place, as one value
 abbrev pub stepped : Step → Place → Stepped
@@ -26,7 +29,7 @@ abbrev pub nowhere : Place
 nowhere = record { quotient = 0; slot = 0; remaining = 0 }
 
 abbrev pub done : Stepped
-done = stepped Done nowhere
+done = stepped (Ok None) nowhere
 
 -- the place after k steps: quotient and slot of the fingerprint to come, and how many are to come; three zeros at the end
 unfoldable pub place_of : ℕ → ℕ → List ℕ → ℕ → Place
@@ -35,7 +38,7 @@ place_of q r l k =
 
 -- step k: the fingerprint with the number k, counted from 0, and the place after it; or done
 unfoldable pub step_of : ℕ → ℕ → List ℕ → ℕ → Stepped
-step_of q r l k = choose (dec_lt k (length l)) (stepped (Fingerprint (get_or l k 0)) (place_of q r l (suc k))) done
+step_of q r l k = choose (dec_lt k (length l)) (stepped (Ok (Some (get_or l k 0))) (place_of q r l (suc k))) done
 
 -- ---- what the functions of the listing answer, if the buffer is an image
 -- the k-th fingerprint held has the quotient x and stands in slot s, at place j of its run
@@ -71,7 +74,7 @@ module _ (q r : ℕ) (l : List ℕ) (k : ℕ) where
   unfolding place_of
   place_none b = choose_no (dec_lt k (length l)) _ _ (λ c. omega arith)
 
-  pub step_some : k < length l → step_of q r l k ≡ stepped (Fingerprint (get_or l k 0)) (place_of q r l (suc k))
+  pub step_some : k < length l → step_of q r l k ≡ stepped (Ok (Some (get_or l k 0))) (place_of q r l (suc k))
   unfolding step_of
   step_some b = choose_yes (dec_lt k (length l)) _ _ b
 

@@ -4,10 +4,9 @@ use Rattle.std.proofs.Common.{ap, subst, ◌∙◌}
 use Rattle.std.specs.Borrow.{Bor}
 use Rattle.layout.specs.declared.numbers.Numbers.{Numbers}
 use Rattle.filter.specs.declared.listing.Place.{Place}
-use Rattle.filter.specs.declared.listing.Step.{Step}
 use Rattle.filter.specs.declared.reader.Reader.{Reader}
 use Rattle.filter.specs.declared.reader.Two.{Two}
-use Rattle.filter.specs.Places.{stepped}
+use Rattle.filter.specs.Places.{Step, stepped}
 use Rattle.filter.specs.Listing.{Listed}
 
 -- the reader took a step: the same buffer and numbers, at the place after it

@@ -1,92 +1,58 @@
--- What the answers of lookup, count and listing say: the number and the values for each case of the enum.
-use Rattle.std.specs.Prelude.{ℕ, zero, suc, ◌≡◌, refl}
-use Rattle.theory.specs.Answer.{Answer, gives, refuses, Looked, Next, no_next}
-use Rattle.theory.specs.tools.Tells.{tells}
-use Rattle.filter.specs.declared.contains.Lookup.{Lookup}
-use Rattle.filter.specs.declared.contains.Lookup.TheVariants as lookup
-use Rattle.filter.specs.declared.contains.Counting.{Counting}
-use Rattle.filter.specs.declared.contains.Counting.TheVariants as counting
+-- What the answers of lookup, count and listing say: the number of a refusal, or the values for each case.
+use Rattle.std.specs.Prelude.{Option, Some, None, Result, ℕ, ◌≡◌, refl}
+use Rattle.std.proofs.Common.{ap, arith}
+use Rattle.theory.specs.Answer.{Answer, Looked, Next, no_next}
+use Rattle.layout.specs.declared.refusal.Refusal.{Refusal}
+use Rattle.layout.specs.Refusals.{says, says_tells}
+use Rattle.filter.specs.declared.lookup.Lookup.{Lookup}
+use Rattle.filter.specs.declared.lookup.Lookup.TheVariants.{Held, Absent}
 use Rattle.filter.specs.declared.listing.Place.{Place}
-use Rattle.filter.specs.declared.listing.Begun.{Begun}
-use Rattle.filter.specs.declared.listing.Begun.TheVariants as begun
-use Rattle.filter.specs.declared.listing.Step.{Step}
-use Rattle.filter.specs.declared.listing.Step.TheVariants as step
 
 -- yes or no, and the remainders compared
-abbrev pub lookup_says : Lookup → Answer Looked
-lookup_says (lookup.Held k) = gives (record { held = 1; compared = k })
-lookup_says (lookup.Absent k) = gives (record { held = 0; compared = k })
-lookup_says (lookup.Refused k) = refuses k
+abbrev pub looked_as : Lookup → Looked
+looked_as (Held k) = record { held = 1; compared = k }
+looked_as (Absent k) = record { held = 0; compared = k }
+
+abbrev pub lookup_says : Result Lookup Refusal → Answer Looked
+lookup_says = says looked_as
 
 -- the count
-abbrev pub counting_says : Counting → Answer ℕ
-counting_says (counting.Copies m) = gives m
-counting_says (counting.Refused k) = refuses k
+abbrev pub counting_says : Result ℕ Refusal → Answer ℕ
+counting_says = says (λ m. m)
 
 -- the first place
-abbrev pub begun_says : Begun → Answer Place
-begun_says (begun.At p) = gives p
-begun_says (begun.Refused k) = refuses k
+abbrev pub begun_says : Result Place Refusal → Answer Place
+begun_says = says (λ p. p)
 
 -- a fingerprint, or done
-abbrev pub step_says : Step → Answer Next
-step_says (step.Fingerprint f) = gives (record { found = 1; fingerprint = f })
-step_says step.Done = gives no_next
-step_says (step.Refused k) = refuses k
+abbrev pub next_as : Option ℕ → Next
+next_as (Some f) = record { found = 1; fingerprint = f }
+next_as None = no_next
+
+abbrev pub step_says : Result (Option ℕ) Refusal → Answer Next
+step_says = says next_as
 
 -- ---- what an answer says tells it
-lookup_is : ℕ → ℕ → Lookup
-lookup_is zero k = lookup.Absent k
-lookup_is (suc _) k = lookup.Held k
+looked_tells : (a b : Lookup) → looked_as a ≡ looked_as b → a ≡ b
+looked_tells (Held j) (Held k) e = ap (λ (z : Looked). Held z.compared) e
+looked_tells (Held j) (Absent k) e = absurd (omega (arith, ap (λ (z : Looked). z.held) e))
+looked_tells (Absent j) (Held k) e = absurd (omega (arith, ap (λ (z : Looked). z.held) e))
+looked_tells (Absent j) (Absent k) e = ap (λ (z : Looked). Absent z.compared) e
 
-pub lookup_tells : (a b : Lookup) → lookup_says a ≡ lookup_says b → a ≡ b
-unfolding lookup_is
-lookup_tells = tells lookup_says back is
-  where
-    back : Answer Looked → Lookup
-    back (gives v) = lookup_is v.held v.compared
-    back (refuses k) = lookup.Refused k
+next_tells : (a b : Option ℕ) → next_as a ≡ next_as b → a ≡ b
+next_tells (Some f) (Some g) e = ap (λ (z : Next). Some z.fingerprint) e
+next_tells (Some f) None e = absurd (omega (arith, ap (λ (z : Next). z.found) e))
+next_tells None (Some g) e = absurd (omega (arith, ap (λ (z : Next). z.found) e))
+next_tells None None e = refl
 
-    is : (a : Lookup) → back (lookup_says a) ≡ a
-    is (lookup.Held k) = refl
-    is (lookup.Absent k) = refl
-    is (lookup.Refused k) = refl
+pub lookup_tells : (a b : Result Lookup Refusal) → lookup_says a ≡ lookup_says b → a ≡ b
+lookup_tells = says_tells looked_as looked_tells
 
-pub counting_tells : (a b : Counting) → counting_says a ≡ counting_says b → a ≡ b
-counting_tells = tells counting_says back is
-  where
-    back : Answer ℕ → Counting
-    back (gives m) = counting.Copies m
-    back (refuses k) = counting.Refused k
+pub counting_tells : (a b : Result ℕ Refusal) → counting_says a ≡ counting_says b → a ≡ b
+counting_tells = says_tells (λ m. m) (λ a b e. e)
 
-    is : (a : Counting) → back (counting_says a) ≡ a
-    is (counting.Copies m) = refl
-    is (counting.Refused k) = refl
+pub begun_tells : (a b : Result Place Refusal) → begun_says a ≡ begun_says b → a ≡ b
+begun_tells = says_tells (λ p. p) (λ a b e. e)
 
-pub begun_tells : (a b : Begun) → begun_says a ≡ begun_says b → a ≡ b
-begun_tells = tells begun_says back is
-  where
-    back : Answer Place → Begun
-    back (gives p) = begun.At p
-    back (refuses k) = begun.Refused k
-
-    is : (a : Begun) → back (begun_says a) ≡ a
-    is (begun.At p) = refl
-    is (begun.Refused k) = refl
-
-step_of_next : ℕ → ℕ → Step
-step_of_next zero f = step.Done
-step_of_next (suc _) f = step.Fingerprint f
-
-pub step_tells : (a b : Step) → step_says a ≡ step_says b → a ≡ b
-unfolding step_of_next
-step_tells = tells step_says back is
-  where
-    back : Answer Next → Step
-    back (gives v) = step_of_next v.found v.fingerprint
-    back (refuses k) = step.Refused k
-
-    is : (a : Step) → back (step_says a) ≡ a
-    is (step.Fingerprint f) = refl
-    is step.Done = refl
-    is (step.Refused k) = refl
+pub step_tells : (a b : Result (Option ℕ) Refusal) → step_says a ≡ step_says b → a ≡ b
+step_tells = says_tells next_as next_tells

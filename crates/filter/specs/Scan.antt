@@ -7,23 +7,23 @@ use Rattle.theory.specs.Holding.{copies, seek}
 use Rattle.theory.specs.Image.{Views}
 use Rattle.theory.specs.list.Scan.{seek_pass, seek_stop, copies_pass, copies_meet, seek_over, copies_over, copies_next, seek_copies}
 use Rattle.theory.specs.reading.RunAt.{RunAt}
-use Rattle.filter.specs.declared.lookup.Seen.{Seen}
-use Rattle.filter.specs.declared.lookup.Seen.TheVariants.{At, Absent}
+use Rattle.filter.specs.declared.lookup.Lookup.{Lookup}
+use Rattle.filter.specs.declared.lookup.Lookup.TheVariants.{Held, Absent}
 
 -- the run l from slot `at` on
 abbrev pub RunIn : ℕ → Views → ℕ → List ℕ → Type 0
 RunIn m v at l = RunAt (λ t. v.runend (t % m)) (λ t. v.remainder (t % m)) at l
 
 -- where the first equal remainder of a run stands, counted from 1; or the run's length
-abbrev pub seen_in : ℕ → List ℕ → Seen
-seen_in rem l = choose (dec_le 1 (copies rem l)) (At (seek rem l)) (Absent (seek rem l))
+abbrev pub seen_in : ℕ → List ℕ → Lookup
+seen_in rem l = choose (dec_le 1 (copies rem l)) (Held (seek rem l)) (Absent (seek rem l))
 
 -- a scan for `rem` from slot `at` on finds what is in the run that stands there
-abbrev pub SeenWithin : ℕ → Seen → Type 0
-SeenWithin m (At k) = (1 ≤ k) × (k ≤ m)
+abbrev pub SeenWithin : ℕ → Lookup → Type 0
+SeenWithin m (Held k) = (1 ≤ k) × (k ≤ m)
 SeenWithin m (Absent k) = k ≤ m
 
-pub record Sought (m : ℕ) (v : Views) (at rem : ℕ) (a : Seen) : Type 0 where
+pub record Sought (m : ℕ) (v : Views) (at rem : ℕ) (a : Lookup) : Type 0 where
   pub right : (l : List ℕ) → RunIn m v at l → length l < m → a ≡ seen_in rem l
   pub bound : SeenWithin m a
 
@@ -40,16 +40,16 @@ module _ (m : ℕ) (v : Views) (at rem k here : ℕ) (p : Passing m v at rem k) 
   cell : (l : List ℕ) (w : RunIn m v at l) (h : length l < m) → get_or l k 0 ≡ here
   cell l w h = sym (e ∙ w.cells k (p l w h).within)
 
-  pub sought_hit : here ≡ rem → k < m → Sought m v at rem (At (k + 1))
+  pub sought_hit : here ≡ rem → k < m → Sought m v at rem (Held (k + 1))
   sought_hit q few = record { right = hit; bound = omega arith }
     where
-      hit : (l : List ℕ) → RunIn m v at l → length l < m → At (k + 1) ≡ seen_in rem l
+      hit : (l : List ℕ) → RunIn m v at l → length l < m → Held (k + 1) ≡ seen_in rem l
       hit l w h =
           let z = p l w h in
           let s = seek_stop rem l k z.within (cell l w h ∙ q) in
           let c = copies_meet rem l k z.within (cell l w h ∙ q) in
           let f : k + 1 ≡ seek rem l = omega (arith, z.sought) in
-          sym (choose_yes (dec_le 1 (copies rem l)) (At (seek rem l)) (Absent (seek rem l)) (omega (arith, z.copied)) ∙ ap At (sym f))
+          sym (choose_yes (dec_le 1 (copies rem l)) (Held (seek rem l)) (Absent (seek rem l)) (omega (arith, z.copied)) ∙ ap Held (sym f))
 
   -- the run's last place
   sought_end : here ≢ rem → v.runend ((at + k) % m) ≡ 1 → k < m → Sought m v at rem (Absent (k + 1))
@@ -66,7 +66,7 @@ module _ (m : ℕ) (v : Views) (at rem k here : ℕ) (p : Passing m v at rem k) 
           let s = seek_pass rem l k z.within (λ y. q (sym (cell l w h) ∙ y)) in
           let c = copies_pass rem l k z.within (λ y. q (sym (cell l w h) ∙ y)) in
           let f : k + 1 ≡ seek rem l = omega (arith, z.sought, seek_over rem l (suc k) over) in
-          sym (choose_no (dec_le 1 (copies rem l)) (At (seek rem l)) (Absent (seek rem l)) (λ y. omega (arith, z.copied, copies_over rem l (suc k) over)) ∙ ap Absent (sym f))
+          sym (choose_no (dec_le 1 (copies rem l)) (Held (seek rem l)) (Absent (seek rem l)) (λ y. omega (arith, z.copied, copies_over rem l (suc k) over)) ∙ ap Absent (sym f))
 
   pub passing_on : here ≢ rem → (v.runend ((at + k) % m) ≡ 1 → ⊥) → Passing m v at rem (k + 1)
   passing_on q none l w h =
@@ -137,20 +137,20 @@ module _ (m : ℕ) (v : Views) (at from rem k count here e : ℕ) (p : Counting 
       record { right = λ l w h f. absurd (omega (arith, (q.right l w h f).0)); bound = omega (arith, q.bound) }
 
 -- from the first equal one on, all are counted
-pub counted_all : (m : ℕ) (v : Views) (at rem k a : ℕ) (l : List ℕ) → RunIn m v at l → length l < m → At k ≡ seen_in rem l → Counted m v at (k - 1) rem a → a ≡ copies rem l
+pub counted_all : (m : ℕ) (v : Views) (at rem k a : ℕ) (l : List ℕ) → RunIn m v at l → length l < m → Held k ≡ seen_in rem l → Counted m v at (k - 1) rem a → a ≡ copies rem l
 counted_all m v at rem k a l w h e t = go (dec_le 1 (copies rem l))
   where
     go : Dec (1 ≤ copies rem l) → a ≡ copies rem l
     go (yes p) =
         let s = seek_copies rem l p in
-        let f : k ≡ seek rem l = cc (e ∙ choose_yes (dec_le 1 (copies rem l)) (At (seek rem l)) (Absent (seek rem l)) p) in
+        let f : k ≡ seek rem l = cc (e ∙ choose_yes (dec_le 1 (copies rem l)) (Held (seek rem l)) (Absent (seek rem l)) p) in
         let b : k - 1 < length l = omega arith in
         t.right l w h b ∙ rw f (sym s.2)
-    go (no p) = absurd (let z : ◌≡◌ {A = ℕ} 0 1 = cc (e ∙ choose_no (dec_le 1 (copies rem l)) (At (seek rem l)) (Absent (seek rem l)) p) in omega arith)
+    go (no p) = absurd (let z : ◌≡◌ {A = ℕ} 0 1 = cc (e ∙ choose_no (dec_le 1 (copies rem l)) (Held (seek rem l)) (Absent (seek rem l)) p) in omega arith)
 
 pub counted_none : (rem k : ℕ) (l : List ℕ) → Absent k ≡ seen_in rem l → 0 ≡ copies rem l
 counted_none rem k l e = go (dec_le 1 (copies rem l))
   where
     go : Dec (1 ≤ copies rem l) → 0 ≡ copies rem l
-    go (yes p) = absurd (let z : ◌≡◌ {A = ℕ} 0 1 = cc (e ∙ choose_yes (dec_le 1 (copies rem l)) (At (seek rem l)) (Absent (seek rem l)) p) in omega arith)
+    go (yes p) = absurd (let z : ◌≡◌ {A = ℕ} 0 1 = cc (e ∙ choose_yes (dec_le 1 (copies rem l)) (Held (seek rem l)) (Absent (seek rem l)) p) in omega arith)
     go (no p) = omega arith

@@ -2,7 +2,7 @@
 -- that after so many steps. Assumes nothing.
 use Prim.Native.Nat.{ℕ, zero, suc, ◌+◌, ◌-◌, ◌≤◌, ◌<◌}
 use Rattle.std.proofs.Math.Path.{◌≡◌, sym, ap, ap₂}
-use Rattle.std.specs.Prelude.{refl, replicate}
+use Rattle.std.specs.Prelude.{Some, None, Ok, refl, replicate}
 use Rattle.std.proofs.Common.{subst, ◌∙◌, add-zero, length-append, drop-cons}
 use mathlib.Core.List.{List, [], ◌∷◌, ◌++◌, map}
 use native.Mathlib.Omega.{arith}
@@ -13,16 +13,17 @@ use Rattle.theory.proofs.images.ImageViews.{image_tells}
 use Rattle.theory.specs.refusals.Demands.{not_refused}
 use Rattle.layout.specs.declared.numbers.Numbers.{Numbers}
 use Rattle.filter.specs.declared.listing.Place.{Place}
-use Rattle.filter.specs.declared.listing.Step.{Step}
-use Rattle.filter.specs.declared.listing.Step.TheVariants.{Fingerprint, Done}
 use Rattle.filter.specs.declared.listing.Stepped.{Stepped}
-use Rattle.filter.specs.declared.listing.Begun.TheVariants as begun
 use Rattle.layout.specs.Records.{lowest_due, HoldsOf}
-use Rattle.filter.specs.Places.{stepped, nowhere, done, place_of, step_of, place_none, place_left, step_some, step_none}
+use Rattle.filter.specs.Places.{Step, stepped, nowhere, done, place_of, step_of, place_none, place_left, step_some, step_none}
 use Rattle.layout.specs.Judging.{clear_whole}
 use Rattle.filter.specs.Listing.{Begins, Listed, step_is, listed_step, listed_done}
 
 -- ---- the steps of a list
+-- each of its fingerprints, then done
+abbrev pub all_then_done : List ℕ → List Step
+all_then_done l = map (λ f. Ok (Some f)) l ++ (Ok None ∷ [])
+
 drop_over : (k : ℕ) (l : List ℕ) → length l ≤ k → drop k l ≡ []
 drop_over k l b = empty (drop k l) (omega (arith, length-drop k l))
   where
@@ -44,7 +45,7 @@ module _ (q r : ℕ) (l : List ℕ) where
       go (yes b) = ap (λ (z : Stepped). z.place) (step_some q r l k b)
       go (no b) = ap (λ (z : Stepped). z.place) (step_none q r l k (omega arith)) ∙ sym (place_none q r l (suc k) (omega arith))
 
-  answers_from : (rest : List ℕ) (k : ℕ) → drop k l ≡ rest → answers k (suc (length rest)) ≡ map Fingerprint rest ++ (Done ∷ [])
+  answers_from : (rest : List ℕ) (k : ℕ) → drop k l ≡ rest → answers k (suc (length rest)) ≡ all_then_done rest
   unfolding answers
   answers_from [] k e = ap (λ (z : Stepped). z.step ∷ []) (step_none q r l k (omega (arith, length-drop k l, ap length e)))
   answers_from (f ∷ rest) k e =
@@ -52,14 +53,14 @@ module _ (q r : ℕ) (l : List ℕ) where
       let c : get_or l k 0 ∷ drop (suc k) l ≡ f ∷ rest = sym (drop-cons l k 0 b) ∙ e in
       let d : get_or l k 0 ≡ f = cc in
       let g : drop (suc k) l ≡ rest = cc in
-      ap₂ ◌∷◌ (ap (λ (z : Stepped). z.step) (step_some q r l k b) ∙ ap Fingerprint d) (answers_from rest (suc k) g)
+      ap₂ ◌∷◌ (ap (λ (z : Stepped). z.step) (step_some q r l k b) ∙ ap (λ z. Ok (Some z)) d) (answers_from rest (suc k) g)
 
   -- all of the list, then done
-  pub answers_all : answers 0 (suc (length l)) ≡ map Fingerprint l ++ (Done ∷ [])
+  pub answers_all : answers 0 (suc (length l)) ≡ all_then_done l
   answers_all = answers_from l 0 refl
 
   -- steps that give fingerprints and then done for the first time give all from step k on
-  answers_until : (fs : List ℕ) (k : ℕ) → map Fingerprint fs ++ (Done ∷ []) ≡ answers k (length (map Fingerprint fs ++ (Done ∷ []))) → fs ≡ drop k l
+  answers_until : (fs : List ℕ) (k : ℕ) → all_then_done fs ≡ answers k (length (all_then_done fs)) → fs ≡ drop k l
   unfolding answers
   answers_until [] k e = go (dec_lt k (length l))
     where
@@ -68,7 +69,7 @@ module _ (q r : ℕ) (l : List ℕ) where
       go (no b) = sym (drop_over k l (omega arith))
   answers_until (f ∷ fs) k e = go (dec_lt k (length l)) (answers_until fs (suc k))
     where
-      go : Dec (k < length l) → (map Fingerprint fs ++ (Done ∷ []) ≡ answers (suc k) (length (map Fingerprint fs ++ (Done ∷ []))) → fs ≡ drop (suc k) l) → f ∷ fs ≡ drop k l
+      go : Dec (k < length l) → (all_then_done fs ≡ answers (suc k) (length (all_then_done fs)) → fs ≡ drop (suc k) l) → f ∷ fs ≡ drop k l
       go (yes b) ih =
           let d : f ≡ get_or l k 0 = cc (e, ap (λ (z : Stepped). z.step) (step_some q r l k b)) in
           rw (drop-cons l k 0 b) (ap₂ ◌∷◌ d (ih (cc e)))
@@ -109,7 +110,7 @@ module _ (n : Numbers) (s l : List ℕ) (e : lowest_due n s ≡ 0) (h : HoldsOf 
 
   -- len + 1 steps give exactly the list held, then done
   pub whole_listing : (ts : List Step) (p : Place) → length ts ≡ suc n.len → Goes n s (place_of n.qbits n.rbits l 0) ts p
-      → (ts ≡ map Fingerprint l ++ (Done ∷ [])) × (p ≡ nowhere)
+      → (ts ≡ all_then_done l) × (p ≡ nowhere)
   whole_listing ts p c g =
       let d : length ts ≡ suc (length l) = c ∙ ap suc (sym h.many) in (
         (goes_from ts 0 _ p refl g).0 ∙ ap (answers n.qbits n.rbits l 0) d ∙ answers_all n.qbits n.rbits l,
@@ -117,10 +118,10 @@ module _ (n : Numbers) (s l : List ℕ) (e : lowest_due n s ≡ 0) (h : HoldsOf 
       )
 
   -- steps up to the first done give exactly the list held, and so they are len + 1
-  pub until_done : (fs : List ℕ) (p : Place) → Goes n s (place_of n.qbits n.rbits l 0) (map Fingerprint fs ++ (Done ∷ [])) p → (fs ≡ l) × (length (map Fingerprint fs ++ (Done ∷ [])) ≡ suc n.len)
+  pub until_done : (fs : List ℕ) (p : Place) → Goes n s (place_of n.qbits n.rbits l 0) (all_then_done fs) p → (fs ≡ l) × (length (all_then_done fs) ≡ suc n.len)
   until_done fs p g =
       let e = answers_until n.qbits n.rbits l fs 0 (goes_from _ 0 _ p refl g).0 in
-      (e, omega (arith, length-append (map Fingerprint fs) (Done ∷ []), length-map fs Fingerprint, ap length e, h.many))
+      (e, omega (arith, length-append {A = Step} (map (λ z. Ok (Some z)) fs) (Ok None ∷ []), length-map {B = Step} fs (λ z. Ok (Some z)), ap length e, h.many))
 
   -- the promise can be kept at every place of the list, so there are such steps
   pub listed_is : (k : ℕ) → Listed n s (place_of n.qbits n.rbits l k) (step_of n.qbits n.rbits l k)
@@ -143,21 +144,21 @@ module _ (n : Numbers) (s l : List ℕ) (e : lowest_due n s ≡ 0) (h : HoldsOf 
 
 -- ---- from the beginning
 -- a beginning that is not refused: the buffer holds a list, and the place is that of its first fingerprint
-pub begun_at : (n : Numbers) (s : List ℕ) (p : Place) → Begins n s (begun.At p) → (l : List ℕ) × HoldsOf n s l × (lowest_due n s ≡ 0) × (p ≡ place_of n.qbits n.rbits l 0)
+pub begun_at : (n : Numbers) (s : List ℕ) (p : Place) → Begins n s (Ok p) → (l : List ℕ) × HoldsOf n s l × (lowest_due n s ≡ 0) × (p ≡ place_of n.qbits n.rbits l 0)
 begun_at n s p b =
     let y = not_refused _ _ _ _ s _ _ b (λ k e. let z : ◌≡◌ {A = ℕ} 0 1 = cc in omega arith) in
     (y.0.held, y.0.holds, y.0.none, cc y.1)
 
 -- the steps from its place up to the first done: they give exactly that list, and they are len + 1
-pub begun_until_done : (n : Numbers) (s : List ℕ) (p p' : Place) (fs : List ℕ) → Begins n s (begun.At p) → Goes n s p (map Fingerprint fs ++ (Done ∷ [])) p'
-    → HoldsOf n s fs × (length (map Fingerprint fs ++ (Done ∷ [])) ≡ suc n.len)
+pub begun_until_done : (n : Numbers) (s : List ℕ) (p p' : Place) (fs : List ℕ) → Begins n s (Ok p) → Goes n s p (all_then_done fs) p'
+    → HoldsOf n s fs × (length (all_then_done fs) ≡ suc n.len)
 begun_until_done n s p p' fs b g =
     let y = begun_at n s p b in
-    let w = until_done n s y.0 y.2 y.1 fs p' (subst (λ (m : Place). Goes n s m (map Fingerprint fs ++ (Done ∷ [])) p') y.3 g) in
+    let w = until_done n s y.0 y.2 y.1 fs p' (subst (λ (m : Place). Goes n s m (all_then_done fs) p') y.3 g) in
     (rw w.0 y.1, w.1)
 
 -- done stays done, whatever the buffer is, if none of 1 to 5 is due
-pub done_stays : (n : Numbers) (s : List ℕ) → lowest_due n s ≡ 0 → (ts : List Step) (p : Place) → Goes n s nowhere ts p → (ts ≡ replicate (length ts) Done) × (p ≡ nowhere)
+pub done_stays : (n : Numbers) (s : List ℕ) → lowest_due n s ≡ 0 → (ts : List Step) (p : Place) → Goes n s nowhere ts p → (ts ≡ replicate (length ts) (Ok None)) × (p ≡ nowhere)
 unfolding Goes
 done_stays n s e [] p g = (refl, sym g)
 done_stays n s e (a ∷ ts) p g =

@@ -8,9 +8,10 @@ ghost use Rattle.filter.specs.Places.{nowhere, done, stepped, Ends, Moves, First
 
 use crate::runs::{run_start, unrolled};
 use bits::compare::larger;
-use bits::select::Found;
-use layout::check::{Verdict, check};
+use bits::select::lowest_from;
+use layout::check::check;
 use layout::numbers::{Numbers, number_due};
+use layout::refusal::Refusal;
 use layout::shape::Shape;
 use layout::slot;
 
@@ -23,26 +24,11 @@ pub struct Place {
     pub remaining: u64,
 }
 
-// A step's answer: the next fingerprint, done, or refused.
-#[derive(Clone, Copy)]
-pub enum Step {
-    Fingerprint(u64),
-    Done,
-    Refused(u8),
-}
-
-// A step's answer and the place after it.
+// A step's answer, the next fingerprint, none where the listing is done, or refused; and the place after it.
 #[derive(Clone, Copy)]
 pub struct Stepped {
-    pub step: Step,
+    pub step: Result<Option<u64>, Refusal>,
     pub place: Place,
-}
-
-// A beginning's answer: the place of the first fingerprint, or refused.
-#[derive(Clone, Copy)]
-pub enum Begun {
-    At(Place),
-    Refused(u8),
 }
 
 // The place of a listing that is over.
@@ -61,25 +47,25 @@ fn finished() -> Stepped
     ensures { result ≡ done }
 {
     Stepped {
-        step: Step::Done,
+        step: Ok(None),
         place: none_left(),
     }
 }
 
 // The first occupied quotient from `from` on, a word of occupieds at a time.
 #[tactic(auto, using(theory::specs::images::Sizes::slots_blocks))]
-fn next_occupied(buf: &[u8], shape: Shape, from: u64) -> Found
+fn next_occupied(buf: &[u8], shape: Shape, from: u64) -> Option<u64>
     requires { (Whole shape (length buf.now)) × (from ≤ slots shape.qbits) }
     ensures { NextOccupied (slots shape.qbits) (views_in shape buf.now) from result }
 {
     let mut skip = from % 64;
     for b in from / 64..shape.blocks() {
-        if let Found::At(p) = bits::select::lowest_from(slot::occupieds(buf, shape, b), skip) {
-            return Found::At(64 * b + p);
+        if let Some(p) = lowest_from(slot::occupieds(buf, shape, b), skip) {
+            return Some(64 * b + p);
         }
         skip = 0;
     }
-    Found::Nothing
+    None
 }
 
 // Slot t of at most two rounds, in the first.
@@ -105,7 +91,7 @@ fn next_run(buf: &[u8], shape: Shape, x: u64, s: u64, left: u64) -> Place
     ensures { Ends shape buf.now s → Moves shape buf.now x s left result }
 {
     let slots = shape.slots();
-    let Found::At(y) = next_occupied(buf, shape, x + 1) else {
+    let Some(y) = next_occupied(buf, shape, x + 1) else {
         return none_left();
     };
     let end = unrolled(s, x, slots) + 1;
@@ -144,7 +130,7 @@ pub fn first_place(buf: &[u8], shape: Shape, len: u64) -> Place
     if len == 0 {
         return none_left();
     }
-    let Found::At(x) = next_occupied(buf, shape, 0) else {
+    let Some(x) = next_occupied(buf, shape, 0) else {
         return none_left();
     };
     Place {
@@ -174,24 +160,18 @@ pub fn step_core(buf: &[u8], shape: Shape, place: Place) -> Stepped
     }
     let f = joined(shape, x, slot::get_remainder(buf, shape, s));
     Stepped {
-        step: Step::Fingerprint(f),
+        step: Ok(Some(f)),
         place: next_place(buf, shape, x, s, place.remaining - 1),
     }
 }
 
 // A listing's beginning: checked, then the place of the first fingerprint.
 #[tactic(auto, using(layout::specs::Judging::clear_whole))]
-pub fn begin(buf: &[u8], n: Numbers) -> Begun
+pub fn begin(buf: &[u8], n: Numbers) -> Result<Place, Refusal>
     ensures { Begins n buf.now result }
 {
-    let verdict = check(buf, n);
-    match verdict {
-        Verdict::Refused(number) => Begun::Refused(number),
-        Verdict::Sound => {
-            let shape = n.shape();
-            Begun::At(first_place(buf, shape, n.len))
-        }
-    }
+    check(buf, n)?;
+    Ok(first_place(buf, n.shape(), n.len))
 }
 
 // One step: numbers 1 to 5 are asked first, and a refused step leaves the place as it was.
@@ -199,10 +179,9 @@ pub fn begin(buf: &[u8], n: Numbers) -> Begun
 pub fn step_from(buf: &[u8], n: Numbers, place: Place) -> Stepped
     ensures { Listed n buf.now place result }
 {
-    let due = number_due(buf.len(), n);
-    if 0 < due {
+    if let Err(e) = number_due(buf.len(), n) {
         return Stepped {
-            step: Step::Refused(due),
+            step: Err(e),
             place,
         };
     }
@@ -210,7 +189,7 @@ pub fn step_from(buf: &[u8], n: Numbers, place: Place) -> Stepped
 }
 
 // A place is lent, and moved on by one fingerprint.
-pub fn step_on(buf: &[u8], n: Numbers, place: &mut Place) -> Step
+pub fn step_on(buf: &[u8], n: Numbers, place: &mut Place) -> Result<Option<u64>, Refusal>
     ensures { Listed n buf.now place.old (stepped result place.new) }
 {
     let stepped = step_from(buf, n, *place);

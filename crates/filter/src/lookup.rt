@@ -10,10 +10,10 @@ use bits::compare::equal;
 use layout::shape::Shape;
 use layout::slot;
 
-// What a scan of a run finds: where the first equal remainder stands, counted from 1; or the run's length, if none is equal.
-#[derive(Clone, Copy)]
-pub enum Seen {
-    At(u64),
+// Is it held, and how many remainders of its run were compared: up to the first equal one; or all, if none is equal.
+#[derive(Clone, Copy, Debug, PartialEq, Eq)]
+pub enum Lookup {
+    Held(u64),
     Absent(u64),
 }
 
@@ -36,7 +36,7 @@ pub fn remainder(shape: Shape, hash: u64) -> u64
 }
 
 // The first remainder equal to `rem` in the run that starts at slot `at`, left from inside once it or the run's end is met.
-fn first_equal(buf: &[u8], shape: Shape, at: u64, rem: u64) -> Seen
+fn first_equal(buf: &[u8], shape: Shape, at: u64, rem: u64) -> Lookup
     requires { (Whole shape (length buf.now)) × (at < slots shape.qbits) }
     ensures { Sought (slots shape.qbits) (views_in shape buf.now) at rem result }
 {
@@ -47,23 +47,23 @@ fn first_equal(buf: &[u8], shape: Shape, at: u64, rem: u64) -> Seen
         let s = (at + k) % slots;
         k += 1;
         if slot::get_remainder(buf, shape, s) == rem {
-            break Seen::At(k);
+            break Lookup::Held(k);
         }
         if slot::is_runend(buf, shape, s) == 1 || k == slots {
-            break Seen::Absent(k);
+            break Lookup::Absent(k);
         }
     }
 }
 
 // Where the fingerprint of a hash first stands in its run, or that it is absent.
 #[tactic(auto, using(crate::specs::Lookup::seen_empty))]
-pub fn find_hash(buf: &[u8], shape: Shape, hash: u64) -> Seen
+pub fn find_hash(buf: &[u8], shape: Shape, hash: u64) -> Lookup
     requires { Whole shape (length buf.now) }
     ensures { Seeks shape buf.now hash result }
 {
     let x = quotient(shape, hash);
     if slot::is_occupied(buf, shape, x) == 0 {
-        return Seen::Absent(0);
+        return Lookup::Absent(0);
     }
     // `&*buf`, here and in `count_hash`: a slice handed on as it came is copied whole first, and the copy waits for memory.
     let at = run_start(&*buf, shape, x);
@@ -101,7 +101,7 @@ pub fn count_hash(buf: &[u8], shape: Shape, hash: u64) -> u64
     }
     let at = run_start(&*buf, shape, x);
     let rem = remainder(shape, hash);
-    let Seen::At(k) = first_equal(buf, shape, at, rem) else {
+    let Lookup::Held(k) = first_equal(buf, shape, at, rem) else {
         return 0;
     };
     count_from(buf, shape, at, k - 1, rem)

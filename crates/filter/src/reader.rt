@@ -2,8 +2,9 @@
 ghost use Rattle.std.specs.Prelude.{◌≡◌};
 ghost use Rattle.filter.specs.Reading.{Moved, TwoListed};
 
-use crate::listing::{Place, Step, step_from};
+use crate::listing::{Place, step_from};
 use layout::numbers::Numbers;
+use layout::refusal::Refusal;
 
 // A listing that has its buffer with it: the buffer, its numbers and the place of the next fingerprint.
 #[derive(Clone, Copy)]
@@ -16,8 +17,8 @@ pub struct Reader<'a> {
 // Two steps and the place after them.
 #[derive(Clone, Copy)]
 pub struct Two {
-    pub first: Step,
-    pub second: Step,
+    pub first: Result<Option<u64>, Refusal>,
+    pub second: Result<Option<u64>, Refusal>,
     pub place: Place,
 }
 
@@ -33,7 +34,7 @@ pub fn reader_new<'a>(buf: &'a [u8], numbers: Numbers, place: Place) -> Reader<'
 }
 
 // The reader is lent, and moved on by one fingerprint.
-pub fn next<'s, 'a>(r: &'s mut Reader<'a>) -> Step
+pub fn next<'s, 'a>(r: &'s mut Reader<'a>) -> Result<Option<u64>, Refusal>
     ensures { Moved r.old result r.new }
 {
     let stepped = step_from(r.buf, r.numbers, r.place);
@@ -48,10 +49,9 @@ pub fn next_two(buf: &[u8], numbers: Numbers, place: Place) -> Two
     let mut r = reader_new(buf, numbers, place);
     let first = next(&mut r);
     let second = next(&mut r);
-    let after = r.place;
     Two {
         first,
         second,
-        place: after,
+        place: r.place,
     }
 }

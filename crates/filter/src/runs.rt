@@ -9,7 +9,7 @@ ghost use Rattle.theory.specs.reading.Walks.{NearestTold, OffsetOf, RunStart, Ru
 ghost use Rattle.filter.specs.Runs.{InWord, NthRunend, Behind, NextCarry, PastRun, FreeFrom};
 
 use bits::compare::larger;
-use bits::select::{Found, Nth};
+use bits::select::select;
 use layout::shape::Shape;
 use layout::slot;
 
@@ -27,7 +27,7 @@ fn runend_in(w: u64, skip: u64, left: u64) -> InBlock
     ensures { InWord w skip left result }
 {
     let high = w >> skip;
-    let Nth::At(p) = bits::select::select(high, left) else {
+    let Some(p) = select(high, left) else {
         return InBlock::On(left - bits::count::ones(high));
     };
     InBlock::End(skip + p)
@@ -35,7 +35,7 @@ fn runend_in(w: u64, skip: u64, left: u64) -> InBlock
 
 // The n-th runend from slot `at` on, round the end.
 #[tactic(auto, using(theory::specs::images::Sizes::slots_blocks, theory::specs::tools::Total::total_le))]
-fn nth_runend(buf: &[u8], shape: Shape, at: u64, n: u64) -> Found
+fn nth_runend(buf: &[u8], shape: Shape, at: u64, n: u64) -> Option<u64>
     requires { (Whole shape (length buf.now)) × (at < 2 ^ 61) }
     ensures { NthRunend (ring_at shape.rbits 9 (slots shape.qbits) (le buf.now)) (slots shape.qbits) at n result }
 {
@@ -44,46 +44,42 @@ fn nth_runend(buf: &[u8], shape: Shape, at: u64, n: u64) -> Found
     let mut left = n;
     for k in at / 64..at / 64 + blocks + 1 {
         match runend_in(slot::runends(buf, shape, k % blocks), skip, left) {
-            InBlock::End(p) => return Found::At(64 * k + p),
+            InBlock::End(p) => return Some(64 * k + p),
             InBlock::On(rest) => left = rest,
         }
         skip = 0;
     }
-    Found::Nothing
+    None
 }
 
 // The slot behind the run of x, if o is the offset of its block.
 #[tactic(auto, using(theory::specs::images::Sizes::slots_blocks, theory::specs::images::Sizes::slots_high, theory::specs::images::Sizes::slot_block))]
-fn behind_run(buf: &[u8], shape: Shape, x: u64, o: u64) -> Found
+fn behind_run(buf: &[u8], shape: Shape, x: u64, o: u64) -> Option<u64>
     requires { (Whole shape (length buf.now)) × (x < slots shape.qbits) × (o ≤ 2 ^ 60) }
     ensures { Behind (slots shape.qbits) (views_in shape buf.now) x o result }
 {
     let b = x / 64;
     let k = bits::count::ones_through(slot::occupieds(buf, shape, b), x % 64);
     if k == 0 {
-        return Found::At(larger(x + 1, 64 * b + o));
+        return Some(larger(x + 1, 64 * b + o));
     }
-    let Found::At(p) = nth_runend(buf, shape, 64 * b + o, k - 1) else {
-        return Found::Nothing;
-    };
-    Found::At(larger(x + 1, p + 1))
+    let p = nth_runend(buf, shape, 64 * b + o, k - 1)?;
+    Some(larger(x + 1, p + 1))
 }
 
 // The carry before the block behind block b, told by the carry o before b: that far the last run of b goes past its last slot.
 #[tactic(auto, using(theory::specs::images::Sizes::slots_blocks, theory::specs::images::Sizes::blocks_high))]
-pub fn next_carry(buf: &[u8], shape: Shape, b: u64, o: u64) -> Found
+pub fn next_carry(buf: &[u8], shape: Shape, b: u64, o: u64) -> Option<u64>
     requires { (Whole shape (length buf.now)) × (b < blocks shape.qbits) × (o ≤ 2 ^ 60) }
     ensures { NextCarry (slots shape.qbits) (views_in shape buf.now) b o result }
 {
     let first = 64 * b;
-    let Found::At(s) = behind_run(buf, shape, first + 63, o) else {
-        return Found::Nothing;
-    };
+    let s = behind_run(buf, shape, first + 63, o)?;
     let next = s - (first + 64);
     if shape.slots() < next {
-        return Found::Nothing;
+        return None;
     }
-    Found::At(next)
+    Some(next)
 }
 
 // How many blocks before b, round the end, the nearest one stands whose byte is below 255; 0 if there is none.
@@ -113,7 +109,7 @@ fn calc_offset(buf: &[u8], shape: Shape, b: u64) -> u64
     let from = b + blocks - back;
     let mut o = slot::offset_byte(buf, shape, from % blocks);
     for j in from..b + blocks {
-        let Found::At(next) = next_carry(buf, shape, j % blocks, o) else {
+        let Some(next) = next_carry(buf, shape, j % blocks, o) else {
             return 0;
         };
         o = next;
@@ -136,15 +132,13 @@ pub fn offset(buf: &[u8], shape: Shape, b: u64) -> u64
 
 // How far behind slot s, which is not taken round the end, the slot behind its quotient's run is.
 #[tactic(auto, using(theory::specs::images::Sizes::slot_block))]
-pub fn past_run(buf: &[u8], shape: Shape, s: u64) -> Found
+pub fn past_run(buf: &[u8], shape: Shape, s: u64) -> Option<u64>
     requires { Whole shape (length buf.now) }
     ensures { PastRun (slots shape.qbits) (views_in shape buf.now) s result }
 {
     let y = s % shape.slots();
-    let Found::At(t) = behind_run(buf, shape, y, offset(buf, shape, y / 64)) else {
-        return Found::Nothing;
-    };
-    Found::At(t - y)
+    let t = behind_run(buf, shape, y, offset(buf, shape, y / 64))?;
+    Some(t - y)
 }
 
 // The last slot of the run of x; of an empty run, the slot before the next quotient's.
@@ -153,7 +147,7 @@ fn run_end(buf: &[u8], shape: Shape, x: u64) -> u64
     requires { (Whole shape (length buf.now)) × (x < slots shape.qbits) }
     ensures { RunEnd (slots shape.qbits) (views_in shape buf.now) x result }
 {
-    let Found::At(gap) = past_run(buf, shape, x) else {
+    let Some(gap) = past_run(buf, shape, x) else {
         return x;
     };
     (x + gap - 1) % shape.slots()
@@ -174,7 +168,7 @@ fn start_past(buf: &[u8], shape: Shape, x: u64, n: u64) -> u64
     requires { (Whole shape (length buf.now)) × (x < slots shape.qbits) × (0 < n) × Pending (slots shape.qbits) (views_in shape buf.now) x n }
     ensures { RunStart (slots shape.qbits) (views_in shape buf.now) x result }
 {
-    let Found::At(p) = nth_runend(buf, shape, x, n - 1) else {
+    let Some(p) = nth_runend(buf, shape, x, n - 1) else {
         return x;
     };
     (p + 1) % shape.slots()
@@ -201,7 +195,7 @@ pub fn run_start(buf: &[u8], shape: Shape, x: u64) -> u64
         return x;
     }
     let n = begun - over;
-    let Nth::At(p) = bits::select::select(((word >> i) << 1) + 1, n) else {
+    let Some(p) = select(((word >> i) << 1) + 1, n) else {
         return start_past(buf, shape, x, n);
     };
     (x + p) % shape.slots()
@@ -216,7 +210,7 @@ pub fn unrolled(at: u64, x: u64, slots: u64) -> u64
 }
 
 // The first free slot from slot x on, not taken round the end: from each slot that is used on to the one behind its run.
-pub fn first_free(buf: &[u8], shape: Shape, x: u64) -> Found
+pub fn first_free(buf: &[u8], shape: Shape, x: u64) -> Option<u64>
     requires { (Whole shape (length buf.now)) × (x < slots shape.qbits) }
     ensures { FreeFrom (slots shape.qbits) (views_in shape buf.now) x result }
 {
@@ -224,13 +218,11 @@ pub fn first_free(buf: &[u8], shape: Shape, x: u64) -> Found
     let mut s = x;
     // Kept: it does not count, it jumps from run to run.
     while s < x + slots {
-        let Found::At(gap) = past_run(buf, shape, s) else {
-            return Found::Nothing;
-        };
+        let gap = past_run(buf, shape, s)?;
         if gap + slot::is_runend(buf, shape, s % slots) == 1 {
-            return Found::At(s);
+            return Some(s);
         }
         s += gap;
     }
-    Found::Nothing
+    None
 }

@@ -6,5 +6,5 @@ use Rattle.filter.proofs.contains.contains_fingerprint.Goals as goal
 pub returns : goal.returns
 returns c =
     let a = c.args in
-    let h = c.in_default.ensures in
-    rw c.lookup_from.ensures (checked_sound a.n _ _ _ h (λ l. looked a.n a.buf.now l a.hash _ (clear_whole a.n a.buf.now h.none).widths (rw c.shape.ensures at c.find_hash.ensures)))
+    let h = c.in_ok-check.ensures in
+    checked_sound a.n _ _ _ h (λ l. looked a.n a.buf.now l a.hash _ (clear_whole a.n a.buf.now h.none).widths (rw c.shape.ensures at c.find_hash.ensures))

@@ -5,5 +5,5 @@ use Rattle.filter.proofs.listing.first_place.Goals as goal
 pub returns : goal.returns
 returns c =
     let a = c.args in
-    let h = c.in-At.ensures in
+    let h = c.in-Some.ensures in
     found_first a.shape a.buf.now a.len _ _ h.1 h.2 h.3 c.run_start.ensures

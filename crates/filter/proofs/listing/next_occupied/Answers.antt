@@ -7,9 +7,9 @@ use Rattle.theory.specs.images.Sizes.{slots_blocks}
 use Rattle.filter.specs.Occupied.{vacant_word}
 use Rattle.filter.proofs.listing.next_occupied.Goals as goal
 
-pub returns-in-At : goal.returns-in-At
-returns-in-At c =
-    let h = rw c.occupieds.ensures at c.in-At.ensures in
+pub returns-in-Some : goal.returns-in-Some
+returns-in-Some c =
+    let h = rw c.occupieds.ensures at c.in-Some.ensures in
     let i = c.loop-b.invariant in
     (omega arith, omega (arith, slots_blocks _ c.requires.0.widths.low), sym (word_bit _ 1 _ c.loop-b.b _ h.1) ∙ h.2, vacant_word _ _ _ c.loop-b.b c.loop-b.skip _ (omega arith) i.2 h.3)
 

@@ -10,6 +10,6 @@ returns-in_default c =
 pub returns : goal.returns
 returns c =
     let a = c.args in
-    let h = c.in-At.ensures in
+    let h = c.in-Some.ensures in
     let m = c.slots-slots.ensures.0 in
     λ e. run_moves a.shape a.buf.now a.x a.s a.left _ c.unrolled-end.result _ e h.0 h.1 h.2 h.3 (rw m at c.unrolled-end.ensures) (rw (c.larger.ensures, m) at c.wrapped.ensures)

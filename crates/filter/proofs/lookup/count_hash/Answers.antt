@@ -17,4 +17,4 @@ returns c =
     λ l w.
     let r = shown_run a.shape a.buf.now l w _ q.1 _ (λ z. c.if-is_occupied-eq0.false (c.is_occupied.ensures.0 ∙ z)) c.run_start-at.ensures in
     let few = shown_few a.shape a.buf.now l w _ q.1 in
-    count_run a.shape a.buf.now l w _ q.1 _ _ (sym q.0) (rw (← c.remainder-rem.ensures.0) (counted_all _ _ _ _ _ _ _ r few (sym c.in-At.is ∙ c.first_equal.ensures.right _ r few) c.count_from.ensures))
+    count_run a.shape a.buf.now l w _ q.1 _ _ (sym q.0) (rw (← c.remainder-rem.ensures.0) (counted_all _ _ _ _ _ _ _ r few (sym c.in-Held.is ∙ c.first_equal.ensures.right _ r few) c.count_from.ensures))

@@ -21,7 +21,7 @@ returns-in_default c = tells_missed _ _ _ (slots_counted _ _ c.requires.0.widths
 
 pub loop-j-preserved : goal.loop-j-preserved
 loop-j-preserved c =
-    let d = c.in-At.ensures in
+    let d = c.in-Some.ensures in
     (omega (arith, d.bound, slots_high _ c.requires.0.widths.high), tells_next _ _ _ (slots_counted _ _ c.requires.0.widths.low c.blocks-blocks.ensures.0) (omega arith) c.loop-j.j _ _ c.loop-j.invariant.1 d)
 
 pub returns : goal.returns

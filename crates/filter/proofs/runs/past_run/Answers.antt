@@ -5,4 +5,4 @@ use Rattle.filter.proofs.runs.past_run.Goals as goal
 pub returns : goal.returns
 returns c =
     let e = c.slots.ensures.0 in
-    rw e (past_found _ _ _ _ (rw e at c.offset.ensures) _ (rw e at (c.in-At.ensures)))
+    rw e (past_found _ _ _ _ (rw e at c.offset.ensures) _ (rw e at (c.in_ok-t.ensures)))

@@ -32,4 +32,4 @@ start_past-requires c =
 pub returns : goal.returns
 returns c =
     let p = (goal.at.returns c).Else-begun-over in
-    rw c.slots.ensures.0 (start_near _ _ _ _ _ (slots_blocks _ c.requires.0.widths.low) c.requires.1 _ _ (from p) (pending p) _ c.in-At.ensures)
+    rw c.slots.ensures.0 (start_near _ _ _ _ _ (slots_blocks _ c.requires.0.widths.low) c.requires.1 _ _ (from p) (pending p) _ c.in-Some.ensures)

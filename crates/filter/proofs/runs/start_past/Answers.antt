@@ -8,5 +8,5 @@ returns-in_default c = start_missing _ _ _ _ _ (slots_blocks _ c.requires.0.widt
 
 pub returns : goal.returns
 returns c =
-    let t = c.in-At.ensures in
+    let t = c.in-Some.ensures in
     rw c.slots.ensures.0 (start_told _ _ _ _ _ c.requires.1 c.requires.2 t.2 t.3 c.requires.3)
