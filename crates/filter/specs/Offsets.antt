@@ -20,7 +20,7 @@ module _ (m B : ℕ) (v : Views) (whole : m ≡ 64 * B) (b o : ℕ) where
       d.right n w (rw g e)
 
   pub next_missed : Behind m v (64 * b + 63) o None → NextCarry m v b o None
-  next_missed d = record { right = λ n w e. absurd (let z : ◌≡◌ {A = ℕ} 0 1 = cc (behind None d n w e) in omega arith); bound = tt }
+  next_missed d = record { right = λ n w e. absurd (cc (behind None d n w e)); bound = tt }
 
   module _ (s : ℕ) (d : Behind m v (64 * b + 63) o (Some s)) where
     is : (n : ℕ → ℕ) → Runs m n v → o ≡ carry m n (64 * b) → s - (64 * b + 64) ≡ carry m n (64 * b + 64)
@@ -45,7 +45,7 @@ module _ (m B : ℕ) (v : Views) (whole : m ≡ 64 * B) (pos : 0 < B) where
   tells_next j o next t d n w f = cc (stepped j o (Some next) t d n w f)
 
   pub tells_missed : (j o b : ℕ) → Tells m v j o → NextCarry m v (j % B) o None → OffsetOf m v b 0
-  tells_missed j o b t d = record { right = λ n w f. absurd (let z : ◌≡◌ {A = ℕ} 0 1 = cc (stepped j o None t d n w f) in omega arith); bound = omega arith }
+  tells_missed j o b t d = record { right = λ n w f. absurd (cc (stepped j o None t d n w f)); bound = omega arith }
 
 module _ (m : ℕ) (v : Views) (s o : ℕ) (t : OffsetOf m v (s % m / 64) o) where
   pub past_found : (p : ℕ) → Behind m v (s % m) o (Some p) → PastRun m v s (Some (p - s % m))
@@ -55,12 +55,12 @@ module _ (m : ℕ) (v : Views) (s o : ℕ) (t : OffsetOf m v (s % m / 64) o) whe
   }
 
   pub past_missed : Behind m v (s % m) o None → PastRun m v s None
-  past_missed d = record { right = λ n w f. absurd (let z : ◌≡◌ {A = ℕ} 0 1 = cc (d.right n w (t.right n w f)) in omega arith); bound = tt }
+  past_missed d = record { right = λ n w f. absurd (cc (d.right n w (t.right n w f))); bound = tt }
 
 module _ (m : ℕ) (v : Views) (x : ℕ) where
   -- where there are counts, the walk finds the slot behind the run
   pub missed : PastRun m v x None → (n : ℕ → ℕ) → Runs m n v → Offsets m n v → ⊥
-  missed d n w f = let z : ◌≡◌ {A = ℕ} 0 1 = cc (d.right n w f) in omega arith
+  missed d n w f = cc (d.right n w f)
 
   pub end_found : (gap : ℕ) → 0 < m → PastRun m v x (Some gap) → RunEnd m v x ((x + gap - 1) % m)
   end_found gap p d = record {

@@ -12,6 +12,7 @@ use Rattle.theory.specs.reading.Ring.{ring_at}
 use Rattle.theory.specs.carry.Carry.{FirstFree}
 use Rattle.theory.specs.reading.Offsets.{Offsets}
 use Rattle.theory.specs.reading.BehindRun.{Runs, behind_none, behind_some, behind_found}
+use Rattle.theory.specs.reading.Walks.{NearestTold}
 use Rattle.filter.specs.declared.runs.InBlock.{InBlock}
 use Rattle.filter.specs.declared.runs.InBlock.TheVariants.{End, On}
 
@@ -33,6 +34,11 @@ Within low high None = Unit {0}
 pub record Behind (m : ℕ) (v : Views) (x o : ℕ) (f : Option ℕ) : Type 0 where
   pub right : (n : ℕ → ℕ) → Runs m n v → o ≡ carry m n (64 * (x / 64)) → f ≡ Some (start m n (suc x))
   pub bound : Within (suc x) (x + o + m + 65) f
+
+-- how many blocks before block b the nearest one stands whose byte is below 255, if there is one
+abbrev pub NearestAt : ℕ → Views → ℕ → Option ℕ → Type 0
+NearestAt B v b (Some k) = (0 < k) × NearestTold B v b k
+NearestAt B v b None = NearestTold B v b 0
 
 -- the carry before the block behind block b, told by the carry o before b
 pub record NextCarry (m : ℕ) (v : Views) (b o : ℕ) (f : Option ℕ) : Type 0 where

@@ -146,11 +146,11 @@ counted_all m v at rem k a l w h e t = go (dec_le 1 (copies rem l))
         let f : k ≡ seek rem l = cc (e ∙ choose_yes (dec_le 1 (copies rem l)) (Held (seek rem l)) (Absent (seek rem l)) p) in
         let b : k - 1 < length l = omega arith in
         t.right l w h b ∙ rw f (sym s.2)
-    go (no p) = absurd (let z : ◌≡◌ {A = ℕ} 0 1 = cc (e ∙ choose_no (dec_le 1 (copies rem l)) (Held (seek rem l)) (Absent (seek rem l)) p) in omega arith)
+    go (no p) = absurd (cc (e ∙ choose_no (dec_le 1 (copies rem l)) (Held (seek rem l)) (Absent (seek rem l)) p))
 
 pub counted_none : (rem k : ℕ) (l : List ℕ) → Absent k ≡ seen_in rem l → 0 ≡ copies rem l
 counted_none rem k l e = go (dec_le 1 (copies rem l))
   where
     go : Dec (1 ≤ copies rem l) → 0 ≡ copies rem l
-    go (yes p) = absurd (let z : ◌≡◌ {A = ℕ} 0 1 = cc (e ∙ choose_yes (dec_le 1 (copies rem l)) (Held (seek rem l)) (Absent (seek rem l)) p) in omega arith)
+    go (yes p) = absurd (cc (e ∙ choose_yes (dec_le 1 (copies rem l)) (Held (seek rem l)) (Absent (seek rem l)) p))
     go (no p) = omega arith

@@ -65,7 +65,7 @@ module _ (q r : ℕ) (l : List ℕ) where
   answers_until [] k e = go (dec_lt k (length l))
     where
       go : Dec (k < length l) → [] ≡ drop k l
-      go (yes b) = let z : ◌≡◌ {A = ℕ} 0 1 = cc (e, ap (λ (z : Stepped). z.step) (step_some q r l k b)) in absurd (omega arith)
+      go (yes b) = absurd (cc (e, ap (λ (z : Stepped). z.step) (step_some q r l k b)))
       go (no b) = sym (drop_over k l (omega arith))
   answers_until (f ∷ fs) k e = go (dec_lt k (length l)) (answers_until fs (suc k))
     where
@@ -73,7 +73,7 @@ module _ (q r : ℕ) (l : List ℕ) where
       go (yes b) ih =
           let d : f ≡ get_or l k 0 = cc (e, ap (λ (z : Stepped). z.step) (step_some q r l k b)) in
           rw (drop-cons l k 0 b) (ap₂ ◌∷◌ d (ih (cc e)))
-      go (no b) ih = let z : ◌≡◌ {A = ℕ} 0 1 = cc (e, ap (λ (z : Stepped). z.step) (step_none q r l k (omega arith))) in absurd (omega arith)
+      go (no b) ih = absurd (cc (e, ap (λ (z : Stepped). z.step) (step_none q r l k (omega arith))))
 
   same_step : (j k : ℕ) → place_of q r l j ≡ place_of q r l k → step_of q r l j ≡ step_of q r l k
   same_step j k e = go (dec_lt j (length l))
@@ -146,7 +146,7 @@ module _ (n : Numbers) (s l : List ℕ) (e : lowest_due n s ≡ 0) (h : HoldsOf 
 -- a beginning that is not refused: the buffer holds a list, and the place is that of its first fingerprint
 pub begun_at : (n : Numbers) (s : List ℕ) (p : Place) → Begins n s (Ok p) → (l : List ℕ) × HoldsOf n s l × (lowest_due n s ≡ 0) × (p ≡ place_of n.qbits n.rbits l 0)
 begun_at n s p b =
-    let y = not_refused _ _ _ _ s _ _ b (λ k e. let z : ◌≡◌ {A = ℕ} 0 1 = cc in omega arith) in
+    let y = not_refused _ _ _ _ s _ _ b (λ k e. cc) in
     (y.0.held, y.0.holds, y.0.none, cc y.1)
 
 -- the steps from its place up to the first done: they give exactly that list, and they are len + 1

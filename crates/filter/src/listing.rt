@@ -149,13 +149,7 @@ pub fn step_core(buf: &[u8], shape: Shape, place: Place) -> Stepped
     let slots = shape.slots();
     let x = place.quotient;
     let s = place.slot;
-    if place.remaining == 0 {
-        return finished();
-    }
-    if slots <= x {
-        return finished();
-    }
-    if slots <= s {
+    if place.remaining == 0 || slots <= x || slots <= s {
         return finished();
     }
     let f = joined(shape, x, slot::get_remainder(buf, shape, s));
@@ -175,7 +169,7 @@ pub fn begin(buf: &[u8], n: Numbers) -> Result<Place, Refusal>
 }
 
 // One step: numbers 1 to 5 are asked first, and a refused step leaves the place as it was.
-#[tactic(auto, using(layout::specs::Judging::clear_whole, crate::specs::Listing::listed_core))]
+#[tactic(auto, using(layout::specs::Judging::clear_whole, crate::specs::Listing::listed_refused, crate::specs::Listing::listed_core))]
 pub fn step_from(buf: &[u8], n: Numbers, place: Place) -> Stepped
     ensures { Listed n buf.now place result }
 {

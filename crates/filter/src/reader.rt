@@ -43,6 +43,7 @@ pub fn next<'s, 'a>(r: &'s mut Reader<'a>) -> Result<Option<u64>, Refusal>
 }
 
 // From plain parameters to a reader and back: whoever calls this needs no reader.
+#[tactic(auto, using(crate::specs::Reading::two_told))]
 pub fn next_two(buf: &[u8], numbers: Numbers, place: Place) -> Two
     ensures { TwoListed numbers buf.now place result }
 {

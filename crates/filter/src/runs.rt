@@ -5,8 +5,8 @@ ghost use Rattle.theory.specs.number.Bytes.{le};
 ghost use Rattle.theory.specs.reading.Ring.{ring_at};
 ghost use Rattle.layout.specs.Whole.{Whole, views_in};
 ghost use Rattle.theory.specs.reading.StartNear.{Pending};
-ghost use Rattle.theory.specs.reading.Walks.{NearestTold, OffsetOf, RunStart, RunEnd, Unrolled};
-ghost use Rattle.filter.specs.Runs.{InWord, NthRunend, Behind, NextCarry, PastRun, FreeFrom};
+ghost use Rattle.theory.specs.reading.Walks.{OffsetOf, RunStart, RunEnd, Unrolled};
+ghost use Rattle.filter.specs.Runs.{InWord, NthRunend, NearestAt, Behind, NextCarry, PastRun, FreeFrom};
 
 use bits::compare::larger;
 use bits::select::select;
@@ -14,6 +14,7 @@ use layout::shape::Shape;
 use layout::slot;
 
 // What a word says of the runend looked for: its digit, or how many are left behind the word.
+// Kept: neither case is a failure.
 #[derive(Clone, Copy)]
 pub enum InBlock {
     End(u64),
@@ -68,7 +69,7 @@ fn behind_run(buf: &[u8], shape: Shape, x: u64, o: u64) -> Option<u64>
 }
 
 // The carry before the block behind block b, told by the carry o before b: that far the last run of b goes past its last slot.
-#[tactic(auto, using(theory::specs::images::Sizes::slots_blocks, theory::specs::images::Sizes::blocks_high))]
+#[tactic(auto, using(theory::specs::images::Sizes::slots_blocks, theory::specs::images::Sizes::blocks_high, crate::specs::Offsets::next_missed))]
 pub fn next_carry(buf: &[u8], shape: Shape, b: u64, o: u64) -> Option<u64>
     requires { (Whole shape (length buf.now)) × (b < blocks shape.qbits) × (o ≤ 2 ^ 60) }
     ensures { NextCarry (slots shape.qbits) (views_in shape buf.now) b o result }
@@ -82,18 +83,18 @@ pub fn next_carry(buf: &[u8], shape: Shape, b: u64, o: u64) -> Option<u64>
     Some(next)
 }
 
-// How many blocks before b, round the end, the nearest one stands whose byte is below 255; 0 if there is none.
-fn blocks_back(buf: &[u8], shape: Shape, b: u64) -> u64
+// How many blocks before b, round the end, the nearest one stands whose byte is below 255, if there is one.
+fn blocks_back(buf: &[u8], shape: Shape, b: u64) -> Option<u64>
     requires { (Whole shape (length buf.now)) × (b < blocks shape.qbits) }
-    ensures { NearestTold (blocks shape.qbits) (views_in shape buf.now) b result }
+    ensures { NearestAt (blocks shape.qbits) (views_in shape buf.now) b result }
 {
     let blocks = shape.blocks();
     for k in 1..blocks + 1 {
         if slot::offset_byte(buf, shape, (b + blocks - k) % blocks) < 255 {
-            return k;
+            return Some(k);
         }
     }
-    0
+    None
 }
 
 // The true offset of block b where 255 stands there: from the nearest block before it that tells its own, a block at a time.
@@ -102,10 +103,9 @@ fn calc_offset(buf: &[u8], shape: Shape, b: u64) -> u64
     ensures { OffsetOf (slots shape.qbits) (views_in shape buf.now) b result }
 {
     let blocks = shape.blocks();
-    let back = blocks_back(buf, shape, b);
-    if back == 0 {
+    let Some(back) = blocks_back(buf, shape, b) else {
         return 0;
-    }
+    };
     let from = b + blocks - back;
     let mut o = slot::offset_byte(buf, shape, from % blocks);
     for j in from..b + blocks {
@@ -131,7 +131,7 @@ pub fn offset(buf: &[u8], shape: Shape, b: u64) -> u64
 }
 
 // How far behind slot s, which is not taken round the end, the slot behind its quotient's run is.
-#[tactic(auto, using(theory::specs::images::Sizes::slot_block))]
+#[tactic(auto, using(theory::specs::images::Sizes::slot_block, crate::specs::Offsets::past_missed))]
 pub fn past_run(buf: &[u8], shape: Shape, s: u64) -> Option<u64>
     requires { Whole shape (length buf.now) }
     ensures { PastRun (slots shape.qbits) (views_in shape buf.now) s result }
@@ -142,7 +142,7 @@ pub fn past_run(buf: &[u8], shape: Shape, s: u64) -> Option<u64>
 }
 
 // The last slot of the run of x; of an empty run, the slot before the next quotient's.
-#[tactic(auto, using(theory::specs::images::Sizes::slots_high))]
+#[tactic(auto, using(theory::specs::images::Sizes::slots_high, crate::specs::Offsets::end_found, crate::specs::Offsets::end_missed))]
 fn run_end(buf: &[u8], shape: Shape, x: u64) -> u64
     requires { (Whole shape (length buf.now)) × (x < slots shape.qbits) }
     ensures { RunEnd (slots shape.qbits) (views_in shape buf.now) x result }
@@ -210,6 +210,7 @@ pub fn unrolled(at: u64, x: u64, slots: u64) -> u64
 }
 
 // The first free slot from slot x on, not taken round the end: from each slot that is used on to the one behind its run.
+#[tactic(auto, using(crate::specs::Offsets::walked_none, crate::specs::Offsets::walked_missed, crate::specs::Offsets::walked_round))]
 pub fn first_free(buf: &[u8], shape: Shape, x: u64) -> Option<u64>
     requires { (Whole shape (length buf.now)) × (x < slots shape.qbits) }
     ensures { FreeFrom (slots shape.qbits) (views_in shape buf.now) x result }
