@@ -9,9 +9,9 @@ ghost use Rattle.writing.specs.Insert.{InsertsCore};
 
 use crate::shift;
 use bits::compare::equal;
-use bits::select::Found;
 use filter::lookup::{quotient, remainder};
 use filter::runs::{first_free, run_start, unrolled};
+use layout::refusal::Refusal;
 use layout::shape::Shape;
 use layout::slot;
 
@@ -31,12 +31,11 @@ pub struct Spot {
     pub copies: u64,
 }
 
-// What the core of an insert says: nothing changed, one copy more, or refused.
+// What the core of an insert says: nothing changed, or one copy more.
 #[derive(Clone, Copy)]
 pub enum Insertion {
     Enough(u64),
     Added(u64),
-    Refused(u8),
 }
 
 // The place that one copy more of `rem` takes in the run that starts at slot `at`, left from inside once a larger remainder or the run's end is met.
@@ -47,7 +46,8 @@ fn scan(buf: &[u8], shape: Shape, at: u64, rem: u64) -> Stop
     let slots = shape.slots();
     let mut k = 0;
     let mut copies = 0;
-    let stop = loop {
+    // Kept: a scan of a run's slots is a loop left by break.
+    loop {
         let s = (at + k) % slots;
         let here = slot::get_remainder(buf, shape, s);
         if rem < here {
@@ -55,14 +55,10 @@ fn scan(buf: &[u8], shape: Shape, at: u64, rem: u64) -> Stop
         }
         k += 1;
         copies += equal(here, rem);
-        if slot::is_runend(buf, shape, s) == 1 {
+        if slot::is_runend(buf, shape, s) == 1 || k == slots {
             break Stop::AtEnd(k, copies);
         }
-        if k == slots {
-            break Stop::AtEnd(k, copies);
-        }
-    };
-    stop
+    }
 }
 
 // Where one copy more goes: into a run that it makes, inside the run, or at its end.
@@ -80,8 +76,7 @@ fn find_spot(buf: &[u8], shape: Shape, x: u64, rem: u64) -> Spot
             copies: 0,
         };
     }
-    let stop = scan(buf, shape, at, rem);
-    match stop {
+    match scan(buf, shape, at, rem) {
         Stop::Inside(place, copies) => Spot {
             slot: first + place,
             bit_slot: first + place,
@@ -98,6 +93,7 @@ fn find_spot(buf: &[u8], shape: Shape, x: u64, rem: u64) -> Spot
 }
 
 // Everything between the spot and the free slot e moves on by one; the occupied bit is set; the carries between grow by one.
+#[tactic(auto, using(theory::specs::images::Block::remainders, theory::specs::images::Block::runends, theory::specs::images::Sizes::slots_high))]
 fn write_in(buf: &mut [u8], shape: Shape, x: u64, rem: u64, spot: Spot, e: u64)
     requires { (Whole shape (length buf.old)) × (x < slots shape.qbits) × (rem < 2 ^ shape.rbits) × (spot.bit < 2) × (x ≤ spot.bit_slot) × (spot.bit_slot ≤ spot.slot) × (spot.slot ≤ e) × (e < x + slots shape.qbits) }
     ensures { Wrote shape.rbits (slots shape.qbits) (blocks shape.qbits) x spot.slot spot.bit_slot e rem spot.bit (le buf.old) (le buf.new) }
@@ -117,7 +113,13 @@ fn write_in(buf: &mut [u8], shape: Shape, x: u64, rem: u64, spot: Spot, e: u64)
 }
 
 // The rule of insert: copies counted first, then capacity asked, then one copy more.
-pub fn insert_core(buf: &mut [u8], shape: Shape, len: u64, hash: u64, max_count: u64) -> Insertion
+pub fn insert_core(
+    buf: &mut [u8],
+    shape: Shape,
+    len: u64,
+    hash: u64,
+    max_count: u64,
+) -> Result<Insertion, Refusal>
     requires { Whole shape (length buf.old) }
     ensures { InsertsCore shape len hash max_count buf.old result buf.new }
 {
@@ -125,17 +127,17 @@ pub fn insert_core(buf: &mut [u8], shape: Shape, len: u64, hash: u64, max_count:
     let rem = remainder(shape, hash);
     let spot = find_spot(buf, shape, x, rem);
     if max_count <= spot.copies {
-        return Insertion::Enough(max_count);
+        return Ok(Insertion::Enough(max_count));
     }
     if shape.capacity() <= len {
-        return Insertion::Refused(7);
+        return Err(Refusal::NoRoom);
     }
-    let Found::At(e) = first_free(buf, shape, x) else {
-        return Insertion::Refused(6);
+    let Some(e) = first_free(buf, shape, x) else {
+        return Err(Refusal::NotSound);
     };
     if e < spot.slot {
-        return Insertion::Refused(6);
+        return Err(Refusal::NotSound);
     }
     write_in(buf, shape, x, rem, spot, e);
-    Insertion::Added(spot.copies)
+    Ok(Insertion::Added(spot.copies))
 }
