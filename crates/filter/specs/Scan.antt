@@ -36,6 +36,10 @@ pub record Passed (rem : ℕ) (l : List ℕ) (k : ℕ) : Type 0 where
 abbrev pub Passing : ℕ → Views → ℕ → ℕ → ℕ → Type 0
 Passing m v at rem k = (l : List ℕ) → RunIn m v at l → length l < m → Passed rem l k
 
+-- a run is shorter than a round, so a scan of a whole round has met its end
+pub sought_round : (m : ℕ) (v : Views) (at rem k : ℕ) → k ≡ m → Passing m v at rem k → Sought m v at rem (Absent k)
+sought_round m v at rem k h p = record { right = λ l w few. absurd (omega (arith, (p l w few).within)); bound = omega arith }
+
 module _ (m : ℕ) (v : Views) (at rem k here : ℕ) (p : Passing m v at rem k) (e : here ≡ v.remainder ((at + k) % m)) where
   cell : (l : List ℕ) (w : RunIn m v at l) (h : length l < m) → get_or l k 0 ≡ here
   cell l w h = sym (e ∙ w.cells k (p l w h).within)
@@ -52,7 +56,7 @@ module _ (m : ℕ) (v : Views) (at rem k here : ℕ) (p : Passing m v at rem k) 
           sym (choose_yes (dec_le 1 (copies rem l)) (Held (seek rem l)) (Absent (seek rem l)) (omega (arith, z.copied)) ∙ ap Held (sym f))
 
   -- the run's last place
-  sought_end : here ≢ rem → v.runend ((at + k) % m) ≡ 1 → k < m → Sought m v at rem (Absent (k + 1))
+  pub sought_end : here ≢ rem → v.runend ((at + k) % m) ≡ 1 → k < m → Sought m v at rem (Absent (k + 1))
   sought_end q one few = record { right = missed; bound = omega arith }
     where
       last : (l : List ℕ) → RunIn m v at l → Dec (length l ≤ suc k) → length l ≤ suc k
@@ -80,14 +84,10 @@ module _ (m : ℕ) (v : Views) (at rem k here : ℕ) (p : Passing m v at rem k) 
       more (yes y) = absurd (none (w.final k (omega (arith, (p l w h).within))))
       more (no y) = omega arith
 
-  -- a run is shorter than a round, so a scan of a whole round has met its end
-  sought_round : here ≢ rem → (v.runend ((at + k) % m) ≡ 1 → ⊥) → k + 1 ≡ m → Sought m v at rem (Absent (k + 1))
-  sought_round q none h = record { right = λ l w few. absurd (omega (arith, (passing_on q none l w few).within)); bound = omega arith }
-
   -- the run is over, by its last slot or by a whole round
   pub sought_over : (bit : ℕ) → bit ≡ v.runend ((at + k) % m) → here ≢ rem → k < m → (bit ≡ 1) ⊎ ((bit ≡ 1 → ⊥) × (k + 1 ≡ m)) → Sought m v at rem (Absent (k + 1))
   sought_over bit d q few (inl one) = sought_end q (sym d ∙ one) few
-  sought_over bit d q few (inr r) = sought_round q (λ y. r.0 (d ∙ y)) r.1
+  sought_over bit d q few (inr r) = sought_round m v at rem (k + 1) r.1 (passing_on q (λ y. r.0 (d ∙ y)))
 
 -- how often `rem` stands in the run from its place `from` on
 pub record Counted (m : ℕ) (v : Views) (at from rem a : ℕ) : Type 0 where
@@ -99,6 +99,13 @@ pub record Counting (m : ℕ) (v : Views) (at from rem k count : ℕ) : Type 0 w
   pub right : (l : List ℕ) → RunIn m v at l → length l < m → from < length l → (k < length l) × (count + copies rem (drop k l) ≡ copies rem (drop from l))
   pub bound : count + from ≤ k
 
+-- a run is shorter than a round
+pub counted_round : (m : ℕ) (v : Views) (at from rem k count : ℕ) → k ≡ m → Counting m v at from rem k count → Counted m v at from rem count
+counted_round m v at from rem k count e p = record {
+  right = λ l w h f. absurd (omega (arith, (p.right l w h f).0));
+  bound = omega (arith, p.bound);
+}
+
 module _ (m : ℕ) (v : Views) (at from rem k count here e : ℕ) (p : Counting m v at from rem k count) (is : here ≡ v.remainder ((at + k) % m))
     (one : here ≡ rem → e ≡ 1) (none : (here ≡ rem → ⊥) → e ≡ 0) (bit : e ≤ 1) where
   counted_on : (l : List ℕ) → RunIn m v at l → length l < m → from < length l → count + e + copies rem (drop (suc k) l) ≡ copies rem (drop from l)
@@ -107,7 +114,7 @@ module _ (m : ℕ) (v : Views) (at from rem k count here e : ℕ) (p : Counting 
       let c : here ≡ get_or l k 0 = is ∙ w.cells k z.0 in
       omega (arith, z.1, copies_next rem l k e z.0 (λ y. one (c ∙ y)) (λ y. none (λ u. y (sym c ∙ u))))
 
-  counted_end : v.runend ((at + k) % m) ≡ 1 → k < m → Counted m v at from rem (count + e)
+  pub counted_end : v.runend ((at + k) % m) ≡ 1 → k < m → Counted m v at from rem (count + e)
   counted_end last few = record {
     right = λ l w h f.
         let z = p.right l w h f in
@@ -132,9 +139,7 @@ module _ (m : ℕ) (v : Views) (at from rem k count here e : ℕ) (p : Counting 
   -- the run is over, by its last slot or, since it is shorter than a round, by a whole round
   pub counted_over : (b : ℕ) → b ≡ v.runend ((at + k) % m) → k < m → (b ≡ 1) ⊎ ((b ≡ 1 → ⊥) × (k + 1 ≡ m)) → Counted m v at from rem (count + e)
   counted_over b d few (inl last) = counted_end (sym d ∙ last) few
-  counted_over b d few (inr r) =
-      let q = counting_on (λ y. r.0 (d ∙ y)) in
-      record { right = λ l w h f. absurd (omega (arith, (q.right l w h f).0)); bound = omega (arith, q.bound) }
+  counted_over b d few (inr r) = counted_round m v at from rem (k + 1) (count + e) r.1 (counting_on (λ y. r.0 (d ∙ y)))
 
 -- from the first equal one on, all are counted
 pub counted_all : (m : ℕ) (v : Views) (at rem k a : ℕ) (l : List ℕ) → RunIn m v at l → length l < m → Held k ≡ seen_in rem l → Counted m v at (k - 1) rem a → a ≡ copies rem l
