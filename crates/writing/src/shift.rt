@@ -16,11 +16,9 @@ pub fn put_in(buf: &mut [u8], shape: Shape, d: usize, w: u64, a: u64, e: u64, v:
     ensures { PutIn shape.rbits d w (slots shape.qbits) (blocks shape.qbits) a e v (le buf.old) (le buf.new) }
 {
     let slots = shape.slots();
-    let mut k = e - a;
-    while 0 < k {
-        let c = slot::get_cell(buf, shape, d, w, (a + k - 1) % slots);
-        slot::set_cell(buf, shape, d, w, (a + k) % slots, c);
-        k -= 1;
+    for t in (a..e).rev() {
+        let c = slot::get_cell(buf, shape, d, w, t % slots);
+        slot::set_cell(buf, shape, d, w, (t + 1) % slots, c);
     }
     slot::set_cell(buf, shape, d, w, a % slots, v);
 }
@@ -31,11 +29,9 @@ pub fn take_out(buf: &mut [u8], shape: Shape, d: usize, w: u64, a: u64, e: u64)
     ensures { TakenOut shape.rbits d w (slots shape.qbits) (blocks shape.qbits) a e (le buf.old) (le buf.new) }
 {
     let slots = shape.slots();
-    let mut t = a;
-    while t < e {
+    for t in a..e {
         let c = slot::get_cell(buf, shape, d, w, (t + 1) % slots);
         slot::set_cell(buf, shape, d, w, t % slots, c);
-        t += 1;
     }
     slot::set_cell(buf, shape, d, w, e % slots, 0);
 }
@@ -54,11 +50,8 @@ pub fn inc_offsets(buf: &mut [u8], shape: Shape, a: u64, k: u64)
     ensures { le buf.new ≡ bump shape.rbits (blocks shape.qbits) a k (le buf.old) }
 {
     let blocks = shape.blocks();
-    let end = a + k;
-    let mut b = a;
-    while b < end {
-        b += 1;
-        let byte = slot::offset_byte(buf, shape, b % blocks);
-        slot::set_offset_byte(buf, shape, b % blocks, counted_up(byte));
+    for b in a..a + k {
+        let byte = slot::offset_byte(buf, shape, (b + 1) % blocks);
+        slot::set_offset_byte(buf, shape, (b + 1) % blocks, counted_up(byte));
     }
 }
