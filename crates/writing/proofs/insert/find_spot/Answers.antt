@@ -1,11 +1,9 @@
 -- `writing::insert::find_spot`: an empty run, or where the scan of the run stopped (specs/CopyIn). Assumes nothing.
 use mathlib.Core.Path.{sym, ◌∙◌}
-use native.Mathlib.Omega.{arith}
 use Rattle.theory.specs.Shape.{slots}
 use Rattle.theory.specs.reading.Walks.{Unrolled}
 use Rattle.writing.specs.CopyIn.{Scanned, spot_new, spot_inside, spot_end}
 use Rattle.layout.specs.Whole.{views_in}
-use Rattle.theory.specs.images.Sizes.{slots_high}
 use Rattle.writing.specs.declared.insert.Stop.TheVariants.{Inside, AtEnd}
 use Rattle.writing.proofs.insert.find_spot.Goals as goal
 use Rattle.writing.proofs.insert.find_spot.Goals.{After-unrolled-first, In-AtEnd, In-Inside}
@@ -25,21 +23,6 @@ pub returns-then-is_occupied-eq0 : goal.returns-then-is_occupied-eq0
 returns-then-is_occupied-eq0 c =
     let a = c.args in
     spot_new a.shape c.requires.0.widths.low a.buf.now a.x a.rem _ _ c.requires.1 c.run_start-at.ensures (began (goal.at.returns-then-is_occupied-eq0 c).After-unrolled-first) (sym c.is_occupied.ensures.0 ∙ c.if-is_occupied-eq0.true)
-
-pub overflow_add-result : goal.overflow_add-result
-overflow_add-result c = omega (arith, (inside (goal.at.overflow_add-result c).In-Inside).bound, (began (goal.at.overflow_add-result c).After-unrolled-first).high, slots_high _ c.requires.0.widths.high)
-
-pub overflow_add-result-in-Inside : goal.overflow_add-result-in-Inside
-overflow_add-result-in-Inside c = omega (arith, (inside (goal.at.overflow_add-result-in-Inside c).In-Inside).bound, (began (goal.at.overflow_add-result-in-Inside c).After-unrolled-first).high, slots_high _ c.requires.0.widths.high)
-
-pub overflow_add-result-in-AtEnd : goal.overflow_add-result-in-AtEnd
-overflow_add-result-in-AtEnd c = omega (arith, (at_end (goal.at.overflow_add-result-in-AtEnd c).In-AtEnd).bound, (began (goal.at.overflow_add-result-in-AtEnd c).After-unrolled-first).high, slots_high _ c.requires.0.widths.high)
-
-pub overflow_add-result-in-AtEnd-2 : goal.overflow_add-result-in-AtEnd-2
-overflow_add-result-in-AtEnd-2 c = omega (arith, (at_end (goal.at.overflow_add-result-in-AtEnd-2 c).In-AtEnd).bound, (began (goal.at.overflow_add-result-in-AtEnd-2 c).After-unrolled-first).high, slots_high _ c.requires.0.widths.high)
-
-pub overflow_sub-result : goal.overflow_sub-result
-overflow_sub-result c = omega (arith, (at_end (goal.at.overflow_sub-result c).In-AtEnd).bound)
 
 pub returns-in-Inside : goal.returns-in-Inside
 returns-in-Inside c =

@@ -1,5 +1,4 @@
 -- `writing::insert::insert_core`: each way out is a case of the rule (specs/Insert). Assumes nothing.
-use Rattle.theory.specs.images.Sizes.{slots_pos}
 use native.Mathlib.Omega.{arith}
 use Rattle.theory.specs.Shape.{slots}
 use Rattle.layout.specs.Whole.{views_in}
@@ -36,12 +35,6 @@ returns-then-e-spot c =
     let a = c.args in
     let q = c.quotient-x.ensures in
     core_before a.shape c.requires.widths.low a.buf.now a.len a.hash a.max_count _ _ _ q.0 q.1 c.remainder-rem.ensures.0 c.find_spot-spot.ensures c.if-max_count-spot.false _ (found (goal.at.returns-then-e-spot c).In-At) c.if-e-spot.true
-
-pub write_in-requires : goal.write_in-requires
-write_in-requires c =
-    let f = (found (goal.at.write_in-requires c).In-At).bound in
-    let p = c.find_spot-spot.ensures in
-    (c.requires, c.quotient-x.ensures.1, c.remainder-rem.ensures.1, p.bit, p.low, p.order, c.if-e-spot.false, omega (arith, slots_pos c.args.shape.qbits))
 
 pub returns : goal.returns
 returns c =

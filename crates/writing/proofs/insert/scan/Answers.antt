@@ -1,27 +1,14 @@
 -- `writing::insert::scan`: the invariant is that k places are passed, none larger, and how many of them are equal (specs/CopyIn). Assumes nothing.
-use Prim.Native.Nat.{◌+◌, ◌%◌, ◌<◌}
 use mathlib.Core.Path.{sym, ◌∙◌}
 use native.Mathlib.Omega.{arith}
-use Rattle.theory.specs.Shape.{slots as slots-of}
 use Rattle.theory.specs.Image.{Views}
 use Rattle.layout.specs.Whole.{views_in}
-use Rattle.writing.specs.CopyIn.{scanned_inside, scanned_end, scanning_on, scanned_round}
-use Rattle.theory.specs.images.Sizes.{slot_round}
+use Rattle.writing.specs.CopyIn.{scanned_inside, scanned_end, scanning_on}
 use Rattle.writing.proofs.insert.scan.Goals as goal
 use Rattle.writing.proofs.insert.scan.Goals.{At-loop-shape}
 
 abbrev seen : At-loop-shape → Views
 seen c = views_in c.args.shape c.args.buf.now
-
--- the slot of the turn
-in-round : (c : At-loop-shape) → (c.args.at + c.loop-shape.k) % c.slots-slots.result < slots-of c.args.shape.qbits
-in-round c = slot_round _ _ (c.args.at + c.loop-shape.k) c.slots-slots.ensures.0
-
-pub get_remainder-here-requires : goal.get_remainder-here-requires
-get_remainder-here-requires c = (c.requires.0, in-round (goal.at.get_remainder-here-requires c).At-loop-shape)
-
-pub is_runend-requires : goal.is_runend-requires
-is_runend-requires c = (c.requires.0, in-round (goal.at.is_runend-requires c).At-loop-shape)
 
 pub loop-shape-preserved : goal.loop-shape-preserved
 loop-shape-preserved c =
@@ -39,9 +26,3 @@ returns-then-is_runend-eq1 c =
     let e = c.slots-slots.ensures.0 in
     let q = c.equal-copies.ensures in
     scanned_end _ (seen (goal.at.returns-then-is_runend-eq1 c).At-loop-shape) _ _ c.loop-shape.k _ _ c.loop-shape.invariant.1 (rw e at c.get_remainder-here.ensures.0) c.loop-shape.invariant.0 _ c.if-rem-here.false q.0 q.1 q.2 (sym (rw e at c.is_runend.ensures.0) ∙ c.if-is_runend-eq1.true)
-
-pub returns-then-k-slots : goal.returns-then-k-slots
-returns-then-k-slots c =
-    let e = c.slots-slots.ensures.0 in
-    let q = c.equal-copies.ensures in
-    scanned_round _ (seen (goal.at.returns-then-k-slots c).At-loop-shape) _ _ (c.loop-shape.k + 1) _ (omega arith) (omega arith) (scanning_on _ (seen (goal.at.returns-then-k-slots c).At-loop-shape) _ _ c.loop-shape.k _ _ c.loop-shape.invariant.1 (rw e at c.get_remainder-here.ensures.0) c.loop-shape.invariant.0 _ c.if-rem-here.false q.0 q.1 q.2 (λ y. c.if-is_runend-eq1.false (rw e at c.is_runend.ensures.0 ∙ y)))

@@ -1,9 +1,7 @@
 -- `writing::remove::find_copy`: an empty run, a miss, or the last equal place of the run (specs/CopyOut). Assumes nothing.
 use mathlib.Core.Path.{sym, ◌∙◌}
-use native.Mathlib.Omega.{arith}
 use Rattle.theory.specs.Shape.{slots as slots-of}
 use Rattle.layout.specs.Whole.{views_in}
-use Rattle.theory.specs.images.Sizes.{slots_high}
 use Rattle.theory.specs.reading.Walks.{Unrolled}
 use Rattle.writing.specs.CopyOut.{LastSeen, going_empty, going_none, going_copy}
 use Rattle.writing.specs.declared.remove.LastEqual.TheVariants.{At}
@@ -27,18 +25,6 @@ pub returns-in_default : goal.returns-in_default
 returns-in_default c =
     let a = c.args in
     going_none a.shape a.buf.now a.x a.rem c.requires.1 _ (λ z. c.if-is_occupied-eq0.false (c.is_occupied.ensures.0 ∙ z)) c.run_start-at.ensures (c.in_default.ensures)
-
-pub overflow_add-result : goal.overflow_add-result
-overflow_add-result c = omega (arith, (seen (goal.at.overflow_add-result c).In-At).bound, (began (goal.at.overflow_add-result c).After-unrolled-first).high, slots_high _ c.requires.0.widths.high)
-
-pub bit_place-requires : goal.bit_place-requires
-bit_place-requires c = (seen (goal.at.bit_place-requires c).In-At).bound.0
-
-pub overflow_add-result-2 : goal.overflow_add-result-2
-overflow_add-result-2 c = omega (arith, (seen (goal.at.overflow_add-result-2 c).In-At).bound, (began (goal.at.overflow_add-result-2 c).After-unrolled-first).high, slots_high _ c.requires.0.widths.high, c.bit_place.ensures)
-
-pub overflow_sub-size : goal.overflow_sub-size
-overflow_sub-size c = omega (arith, (seen (goal.at.overflow_sub-size c).In-At).bound)
 
 pub returns : goal.returns
 returns c =

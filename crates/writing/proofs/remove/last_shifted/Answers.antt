@@ -4,7 +4,7 @@ use Rattle.theory.specs.Shape.{slots as slots-of}
 use Rattle.layout.specs.Whole.{views_in}
 use Rattle.theory.specs.images.Sizes.{slots_high}
 use Rattle.filter.specs.Runs.{PastRun}
-use Rattle.writing.specs.Shifted.{moving_none, moving_end, moving_on, moving_missed, moving_round}
+use Rattle.writing.specs.Shifted.{moving_end, moving_on}
 use Rattle.bits.specs.declared.select.Found.TheVariants.{At}
 use Rattle.writing.proofs.remove.last_shifted.Goals as goal
 use Rattle.writing.proofs.remove.last_shifted.Goals.{In-At}
@@ -13,30 +13,10 @@ use Rattle.writing.proofs.remove.last_shifted.Goals.{In-At}
 far : (c : In-At) → PastRun (slots-of c.args.shape.qbits) (views_in c.args.shape c.args.buf.now) c.loop-s.s (At c.in-At.gap)
 far c = c.in-At.ensures
 
-pub loop-s-init : goal.loop-s-init
-loop-s-init c = (omega arith, omega arith, moving_none _ _ _)
-
-pub returns-in_default : goal.returns-in_default
-returns-in_default c = moving_missed _ _ _ c.loop-s.s c.loop-s.invariant.2 (c.in_default.ensures)
-
 pub returns-then-gap-eq1 : goal.returns-then-gap-eq1
 returns-then-gap-eq1 c = moving_end _ _ _ c.loop-s.s c.loop-s.invariant.2 _ c.loop-s.invariant.0 (omega arith) (far (goal.at.returns-then-gap-eq1 c).In-At) c.if-gap-eq1.true
-
-pub overflow_sub-s : goal.overflow_sub-s
-overflow_sub-s c = omega (arith, (far (goal.at.overflow_sub-s c).In-At).bound)
-
-pub overflow_add-s : goal.overflow_add-s
-overflow_add-s c =
-    let high = slots_high _ c.requires.0.widths.high in
-    omega (arith, (far (goal.at.overflow_add-s c).In-At).bound)
-
-pub loop-s-smaller : goal.loop-s-smaller
-loop-s-smaller c = omega (arith, (far (goal.at.loop-s-smaller c).In-At).bound)
 
 pub loop-s-preserved : goal.loop-s-preserved
 loop-s-preserved c =
     let high = slots_high _ c.requires.0.widths.high in
     (omega (arith, (far (goal.at.loop-s-preserved c).In-At).bound), omega (arith, (far (goal.at.loop-s-preserved c).In-At).bound), moving_on _ _ _ c.loop-s.s c.loop-s.invariant.2 _ (far (goal.at.loop-s-preserved c).In-At))
-
-pub returns : goal.returns
-returns c = moving_round _ _ _ c.loop-s.s c.loop-s.invariant.2 (omega arith)

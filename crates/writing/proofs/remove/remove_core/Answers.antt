@@ -37,11 +37,6 @@ returns-then-e-copy c =
     let q = c.quotient-x.ensures in
     core_before a.shape c.requires.widths.low a.buf.now a.hash _ _ q.0 q.1 c.remainder-rem.ensures.0 _ (copy (goal.at.returns-then-e-copy c).In-Copy) _ (moved (goal.at.returns-then-e-copy c).In-At) c.if-e-copy.true
 
-pub write_out-requires : goal.write_out-requires
-write_out-requires c =
-    let p = (copy (goal.at.write_out-requires c).In-Copy).bound in
-    (c.requires, c.quotient-x.ensures.1, p.2, p.0, p.1, c.if-e-copy.false, omega (arith, (moved (goal.at.write_out-requires c).In-At).bound, slots_pos c.args.shape.qbits))
-
 pub returns : goal.returns
 returns c =
     let a = c.args in

@@ -1,21 +1,16 @@
 -- `writing::remove::renew_offsets`: the invariant is that j blocks are told anew, and that `carry` is the carry before the block reached (specs/Shifted). Assumes nothing.
 use Prim.Native.Nat.{ℕ, ◌+◌, ◌*◌, ◌%◌, ◌<◌}
-use mathlib.Core.Path.{◌≡◌, refl, ◌∙◌}
+use mathlib.Core.Path.{◌≡◌, ◌∙◌}
 use native.Mathlib.Omega.{arith}
 use native.Mathlib.Nat.{mod-lt}
-use lib.ListN.{length}
 use Rattle.theory.specs.Shape.{slots as slots-of, blocks as blocks-of}
 use Rattle.theory.specs.images.Sizes.{slots_blocks, slots_high}
-use Rattle.layout.specs.Whole.{Whole, views_in}
+use Rattle.layout.specs.Whole.{views_in}
 use Rattle.filter.specs.Runs.{NextCarry}
-use Rattle.writing.specs.Shifted.{renewing_none, renewing_on, renews_missed, renews_all}
+use Rattle.writing.specs.Shifted.{renewing_on, renews_missed}
 use Rattle.bits.specs.declared.select.Found.TheVariants.{At}
 use Rattle.writing.proofs.remove.renew_offsets.Goals as goal
-use Rattle.writing.proofs.remove.renew_offsets.Goals.{After-blocks-blocks, At-loop-j, In-At}
-
--- the buffer stays whole
-still : (c : At-loop-j) → Whole c.args.shape (length c.loop-j.buf)
-still c = rw c.loop-j.invariant.2 c.requires.0
+use Rattle.writing.proofs.remove.renew_offsets.Goals.{After-blocks-blocks, In-At}
 
 -- a block round the end
 round : (c : After-blocks-blocks) (t : ℕ) → t % c.blocks-blocks.result < blocks-of c.args.shape.qbits
@@ -28,17 +23,8 @@ whole c = slots_blocks _ c.requires.0.widths.low
 stepped : (c : In-At) → NextCarry (slots-of c.args.shape.qbits) (views_in c.args.shape c.loop-j.buf) ((c.args.a + c.loop-j.j) % blocks-of c.args.shape.qbits) c.loop-j.carry (At c.in-At.next)
 stepped c = rw c.blocks-blocks.ensures.0 at (c.in-At.ensures)
 
-pub loop-j-init : goal.loop-j-init
-loop-j-init c = (omega arith, c.requires.3, refl, renewing_none _ _ _ _ _ _ _)
-
-pub next_carry-requires : goal.next_carry-requires
-next_carry-requires c = (still (goal.at.next_carry-requires c).At-loop-j, round (goal.at.next_carry-requires c).After-blocks-blocks _, c.loop-j.invariant.1)
-
 pub returns-in_default : goal.returns-in_default
 returns-in_default c = renews_missed _ _ _ _ _ _ _ c.loop-j.j _ _ (whole (goal.at.returns-in_default c).After-blocks-blocks) c.loop-j.invariant.3 (rw c.blocks-blocks.ensures.0 at (c.in_default.ensures))
-
-pub set_offset_byte-requires : goal.set_offset_byte-requires
-set_offset_byte-requires c = (still (goal.at.set_offset_byte-requires c).At-loop-j, round (goal.at.set_offset_byte-requires c).After-blocks-blocks _, omega (arith, c.lesser.ensures))
 
 pub loop-j-preserved : goal.loop-j-preserved
 loop-j-preserved c =
@@ -52,6 +38,3 @@ loop-j-preserved c =
       w.auto.buf ∙ c.loop-j.invariant.2,
       rw (w.ensures, c.lesser.ensures, e) (renewing_on _ _ _ _ _ _ _ c.loop-j.j _ _ (whole (goal.at.loop-j-preserved c).After-blocks-blocks) c.loop-j.invariant.3 _ (stepped (goal.at.loop-j-preserved c).In-At) (omega arith) r),
     )
-
-pub returns : goal.returns
-returns c = renews_all _ _ _ _ _ _ _ c.loop-j.j _ _ (whole (goal.at.returns c).After-blocks-blocks) c.loop-j.invariant.3 (omega arith)

@@ -1,5 +1,4 @@
 -- `writing::remove::take`: the writes, one after the other (theory: Removing). Assumes nothing.
-use Rattle.theory.specs.number.Bytes.{le}
 use native.Mathlib.Omega.{arith}
 use Rattle.theory.specs.images.Block.{remainders, runends}
 use Rattle.theory.specs.images.Sizes.{slots_high}
@@ -16,13 +15,3 @@ take_out-requires-2 c =
     let p = c.requires in
     let high = slots_high _ p.0.widths.high in
     (rw c.take_out.auto.buf p.0, runends _, omega arith, omega arith, omega arith, omega arith)
-
-pub returns : goal.returns
-returns c =
-    record {
-      x₁ = le c.take_out.new.buf;
-      x₂ = le c.take_out-2.new.buf;
-      take_remainder = c.take_out.ensures;
-      take_runend = c.take_out-2.ensures;
-      after = c.set_occupied.ensures;
-    }
