@@ -40,6 +40,7 @@ pub enum Insertion {
 }
 
 // The place that one copy more of `rem` takes in the run that starts at slot `at`, left from inside once a larger remainder or the run's end is met.
+// Kept: the project's rules want the scans over a run's slots as loops left by break.
 fn scan(buf: &[u8], shape: Shape, at: u64, rem: u64) -> Stop
     requires { (Whole shape (length buf.now)) × (at < slots shape.qbits) }
     ensures { Scanned (slots shape.qbits) (views_in shape buf.now) at rem result }
@@ -98,6 +99,7 @@ fn find_spot(buf: &[u8], shape: Shape, x: u64, rem: u64) -> Spot
 }
 
 // Everything between the spot and the free slot e moves on by one; the occupied bit is set; the carries between grow by one.
+#[tactic(auto, using(theory::specs::images::Block::remainders, theory::specs::images::Block::runends, theory::specs::images::Sizes::slots_high))]
 fn write_in(buf: &mut [u8], shape: Shape, x: u64, rem: u64, spot: Spot, e: u64)
     requires { (Whole shape (length buf.old)) × (x < slots shape.qbits) × (rem < 2 ^ shape.rbits) × (spot.bit < 2) × (x ≤ spot.bit_slot) × (spot.bit_slot ≤ spot.slot) × (spot.slot ≤ e) × (e < x + slots shape.qbits) }
     ensures { Wrote shape.rbits (slots shape.qbits) (blocks shape.qbits) x spot.slot spot.bit_slot e rem spot.bit (le buf.old) (le buf.new) }

@@ -58,6 +58,7 @@ fn as_last_equal(last: u64, size: u64) -> LastEqual
 }
 
 // The last remainder equal to `rem` in the run that starts at slot `at`: the loop is left at the run's end with the last place that was equal.
+// Kept: the project's rules want the scans over a run's slots as loops left by break.
 fn last_equal(buf: &[u8], shape: Shape, at: u64, rem: u64) -> LastEqual
     requires { (Whole shape (length buf.now)) × (at < slots shape.qbits) }
     ensures { LastSeen (slots shape.qbits) (views_in shape buf.now) at rem result }
@@ -111,6 +112,7 @@ fn find_copy(buf: &[u8], shape: Shape, x: u64, rem: u64) -> Going
 }
 
 // The last slot that is shifted from slot x on, not taken round the end: from each slot on to the last that its run fills.
+// Kept: the slots are not visited one by one, each turn goes on behind what the run fills, so no range counts them.
 fn last_shifted(buf: &[u8], shape: Shape, x: u64) -> Found
     requires { (Whole shape (length buf.now)) × (x < slots shape.qbits) }
     ensures { ShiftedFrom (slots shape.qbits) (views_in shape buf.now) x result }
@@ -130,6 +132,7 @@ fn last_shifted(buf: &[u8], shape: Shape, x: u64) -> Found
 }
 
 // The carry o before slot `first`, less one if the slot e that is cleared lies there or behind.
+#[tactic(auto, unfolding(theory::specs::carry::CarryMore::upto))]
 fn carry_without(o: u64, first: u64, e: u64) -> u64
     ensures { result ≡ o - upto e first }
 {
@@ -140,6 +143,7 @@ fn carry_without(o: u64, first: u64, e: u64) -> u64
 }
 
 // The copy and its runend bit taken out, what stands behind them up to e moved back by one, and the occupied bit as it becomes.
+#[tactic(auto, using(theory::specs::images::Block::remainders, theory::specs::images::Block::runends, theory::specs::images::Sizes::slots_high))]
 fn take(buf: &mut [u8], shape: Shape, x: u64, copy: GoingCopy, e: u64)
     requires { (Whole shape (length buf.old)) × (x < slots shape.qbits) × (copy.bit < 2) × (x ≤ copy.bit_slot) × (copy.bit_slot ≤ copy.slot) × (copy.slot ≤ e) × (e < x + slots shape.qbits) }
     ensures { TookOut shape.rbits (slots shape.qbits) (blocks shape.qbits) x copy.slot copy.bit_slot e copy.bit (le buf.old) (le buf.new) }
@@ -176,6 +180,7 @@ fn renew_offsets(buf: &mut [u8], shape: Shape, a: u64, k: u64, o: u64) -> Remova
 }
 
 // One copy fewer, written: the carry before the block of x is told while its byte still tells it, the cells are moved, and the offsets behind told anew from it.
+#[tactic(auto, using(theory::specs::images::Sizes::slot_block))]
 fn write_out(buf: &mut [u8], shape: Shape, x: u64, copy: GoingCopy, e: u64) -> Removal
     requires { (Whole shape (length buf.old)) × (x < slots shape.qbits) × (copy.bit < 2) × (x ≤ copy.bit_slot) × (copy.bit_slot ≤ copy.slot) × (copy.slot ≤ e) × (e < x + slots shape.qbits) }
     ensures { WroteOut shape.rbits (slots shape.qbits) (blocks shape.qbits) x copy e (le buf.old) result (le buf.new) }

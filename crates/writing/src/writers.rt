@@ -17,6 +17,7 @@ pub enum Inserted {
 }
 
 // The core of both inserts, on numbers that passed 1 to 5.
+#[tactic(auto, using(layout::specs::Judging::clear_whole, theory::specs::images::Sizes::slots_high, theory::specs::refusals::ByNumber::none_due))]
 fn insert_worked(buf: &mut [u8], n: Numbers, hash: u64, max_count: u64) -> Inserted
     requires { lowest_due n buf.old ≡ 0 }
     ensures { InsertWorked n hash max_count buf.old result buf.new }
@@ -70,6 +71,7 @@ pub enum Removed {
 }
 
 // The core of both removes, on numbers that passed 1 to 5.
+#[tactic(auto, using(layout::specs::Judging::clear_whole))]
 fn remove_worked(buf: &mut [u8], n: Numbers, hash: u64) -> Removed
     requires { lowest_due n buf.old ≡ 0 }
     ensures { RemoveWorked n hash buf.old result buf.new }

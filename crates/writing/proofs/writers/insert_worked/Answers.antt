@@ -1,10 +1,7 @@
 -- `writing::writers::insert_worked`: the core's answer with the record afterwards (specs/Writing). Assumes nothing.
 use mathlib.Core.Path.{subst, sym}
 use native.Mathlib.Omega.{arith}
-use Rattle.theory.specs.refusals.ByNumber.{none_due}
-use Rattle.theory.specs.images.Sizes.{slots_high}
 use Rattle.layout.specs.declared.numbers.Numbers.{Numbers}
-use Rattle.layout.specs.Judging.{clear_whole}
 use Rattle.writing.specs.declared.insert.Insertion.{Insertion}
 use Rattle.writing.specs.declared.writers.Inserted.TheVariants.{Counted}
 use Rattle.writing.specs.Writing.{InsertWorked, inserted_from, insert_worked}
@@ -19,14 +16,6 @@ worked : (c : After-slice_known-2-1) → Worked c c.insert_core-done.result
 worked c =
     let a = c.args in
     insert_worked a.n a.hash a.max_count a.buf.now _ _ c.requires (λ i. omega (arith, c.slice_known-1.given i)) (λ i. omega (arith, c.slice_known-2-1.given i)) c.insert_core-done.auto.buf (rw c.shape.ensures at c.insert_core-done.ensures)
-
-pub insert_core-done-requires : goal.insert_core-done-requires
-insert_core-done-requires c = rw c.shape.ensures (clear_whole c.args.n c.args.buf.now c.requires)
-
-pub overflow_add-n : goal.overflow_add-n
-overflow_add-n c =
-    let d = none_due _ _ _ _ _ c.requires in
-    omega (arith, d.fewer, slots_high _ d.widths.high)
 
 pub returns-in-Enough : goal.returns-in-Enough
 returns-in-Enough c = subst (Worked (goal.at.returns-in-Enough c).After-slice_known-2-1) c.in-Enough.is (worked (goal.at.returns-in-Enough c).After-slice_known-2-1)

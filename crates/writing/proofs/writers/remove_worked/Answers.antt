@@ -2,7 +2,6 @@
 use mathlib.Core.Path.{subst, sym, ap, ◌∙◌}
 use native.Mathlib.Omega.{arith}
 use Rattle.layout.specs.declared.numbers.Numbers.{Numbers}
-use Rattle.layout.specs.Judging.{clear_whole}
 use Rattle.writing.specs.declared.remove.Removal.{Removal}
 use Rattle.writing.specs.declared.writers.Removed.TheVariants.{Gone}
 use Rattle.layout.specs.Records.{with_len}
@@ -18,9 +17,6 @@ worked : (c : After-slice_known-2-1) → Worked c c.remove_core-done.result
 worked c =
     let a = c.args in
     remove_worked a.n a.hash a.buf.now _ _ c.requires (λ i. omega (arith, c.slice_known-1.given i)) (λ i. omega (arith, c.slice_known-2-1.given i)) c.remove_core-done.auto.buf (rw c.shape.ensures at c.remove_core-done.ensures)
-
-pub remove_core-done-requires : goal.remove_core-done-requires
-remove_core-done-requires c = rw c.shape.ensures (clear_whole c.args.n c.args.buf.now c.requires)
 
 pub returns-in-Gone : goal.returns-in-Gone
 returns-in-Gone c =
