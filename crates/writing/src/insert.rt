@@ -48,7 +48,7 @@ fn scan(buf: &[u8], shape: Shape, at: u64, rem: u64) -> Stop
     let slots = shape.slots();
     let mut k = 0;
     let mut copies = 0;
-    let stop = loop {
+    loop {
         let s = (at + k) % slots;
         let here = slot::get_remainder(buf, shape, s);
         if rem < here {
@@ -56,14 +56,10 @@ fn scan(buf: &[u8], shape: Shape, at: u64, rem: u64) -> Stop
         }
         k += 1;
         copies += equal(here, rem);
-        if slot::is_runend(buf, shape, s) == 1 {
+        if slot::is_runend(buf, shape, s) == 1 || k == slots {
             break Stop::AtEnd(k, copies);
         }
-        if k == slots {
-            break Stop::AtEnd(k, copies);
-        }
-    };
-    stop
+    }
 }
 
 // Where one copy more goes: into a run that it makes, inside the run, or at its end.
@@ -81,8 +77,7 @@ fn find_spot(buf: &[u8], shape: Shape, x: u64, rem: u64) -> Spot
             copies: 0,
         };
     }
-    let stop = scan(buf, shape, at, rem);
-    match stop {
+    match scan(buf, shape, at, rem) {
         Stop::Inside(place, copies) => Spot {
             slot: first + place,
             bit_slot: first + place,

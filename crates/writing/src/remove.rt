@@ -10,7 +10,7 @@ ghost use Rattle.writing.specs.Shifted.{ShiftedFrom, Renews};
 ghost use Rattle.writing.specs.Remove.{WroteOut, RemovesCore};
 
 use crate::shift;
-use bits::compare::lesser;
+use bits::compare::{lesser, over};
 use bits::select::Found;
 use filter::lookup::{quotient, remainder};
 use filter::runs::{next_carry, offset, past_run, run_start, unrolled};
@@ -67,28 +67,23 @@ fn last_equal(buf: &[u8], shape: Shape, at: u64, rem: u64) -> LastEqual
     let mut k = 0;
     // One more than the last equal place, or 0.
     let mut last = 0;
-    let seen = loop {
+    loop {
         let s = (at + k) % slots;
         k += 1;
         if slot::get_remainder(buf, shape, s) == rem {
             last = k;
         }
-        if slot::is_runend(buf, shape, s) == 1 {
+        if slot::is_runend(buf, shape, s) == 1 || k == slots {
             break as_last_equal(last, k);
         }
-        if k == slots {
-            break as_last_equal(last, k);
-        }
-    };
-    seen
+    }
 }
 
 // The place of the runend bit that goes: in front of the run's last, which stays the last, or the only one.
 fn bit_place(place: u64, size: u64) -> u64
-    requires { place < size }
     ensures { result ≡ min place (size - 2) }
 {
-    if size < 2 { 0 } else { lesser(place, size - 2) }
+    lesser(place, over(size, 2))
 }
 
 // Which copy goes: the last equal one of the run, or none.
@@ -136,10 +131,7 @@ fn last_shifted(buf: &[u8], shape: Shape, x: u64) -> Found
 fn carry_without(o: u64, first: u64, e: u64) -> u64
     ensures { result ≡ o - upto e first }
 {
-    if o == 0 {
-        return 0;
-    }
-    if first <= e { o - 1 } else { o }
+    over(o, u64::from(first <= e))
 }
 
 // The copy and its runend bit taken out, what stands behind them up to e moved back by one, and the occupied bit as it becomes.

@@ -7,6 +7,7 @@ ghost use Rattle.theory.specs.writing.PutIn.{PutIn, TakenOut};
 ghost use Rattle.theory.specs.writing.RaisedOffsets.{bump};
 ghost use Rattle.layout.specs.Whole.{Whole};
 
+use bits::compare::lesser;
 use layout::shape::Shape;
 use layout::slot;
 
@@ -41,7 +42,7 @@ fn counted_up(byte: u64) -> u64
     requires { byte < 256 }
     ensures { (result ≡ min (byte + 1) 255) × (result < 256) }
 {
-    if byte < 255 { byte + 1 } else { 255 }
+    lesser(byte + 1, 255)
 }
 
 // The offsets of the k blocks behind block a, each one more.

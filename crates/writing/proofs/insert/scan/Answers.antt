@@ -1,28 +1,31 @@
 -- `writing::insert::scan`: the invariant is that k places are passed, none larger, and how many of them are equal (specs/CopyIn). Assumes nothing.
-use mathlib.Core.Path.{sym, ◌∙◌}
-use native.Mathlib.Omega.{arith}
-use Rattle.theory.specs.Image.{Views}
+use Rattle.std.proofs.Common.{◌≡◌, ◌+◌, inl, inr, sym, ◌∙◌, arith}
+use Rattle.theory.specs.Shape.{slots as slots-of}
 use Rattle.layout.specs.Whole.{views_in}
-use Rattle.writing.specs.CopyIn.{scanned_inside, scanned_end, scanning_on}
+use Rattle.writing.specs.CopyIn.{Scanning, scanned_inside, scanned_end, scanned_round, scanning_on}
 use Rattle.writing.proofs.insert.scan.Goals as goal
-use Rattle.writing.proofs.insert.scan.Goals.{At-loop-shape}
+use Rattle.writing.proofs.insert.scan.Goals.{After-is_runend}
 
-abbrev seen : At-loop-shape → Views
-seen c = views_in c.args.shape c.args.buf.now
-
-pub loop-shape-preserved : goal.loop-shape-preserved
-loop-shape-preserved c =
+-- the place of the turn is passed, and the run goes on
+on : (c : After-is_runend) → (c.is_runend.result ≡ 1 → ⊥)
+    → Scanning (slots-of c.args.shape.qbits) (views_in c.args.shape c.args.buf.now) c.args.at c.args.rem (c.loop-shape.k + 1) (c.loop-shape.copies + c.equal-copies.result)
+on c going =
     let e = c.slots-slots.ensures.0 in
     let q = c.equal-copies.ensures in
-    (omega arith, scanning_on _ (seen (goal.at.loop-shape-preserved c).At-loop-shape) _ _ c.loop-shape.k _ _ c.loop-shape.invariant.1 (rw e at c.get_remainder-here.ensures.0) c.loop-shape.invariant.0 _ c.if-rem-here.false q.0 q.1 q.2 (λ y. c.if-is_runend-eq1.false (rw e at c.is_runend.ensures.0 ∙ y)))
+    scanning_on _ _ _ _ c.loop-shape.k _ _ c.loop-shape.invariant.1 (rw e at c.get_remainder-here.ensures.0) c.loop-shape.invariant.0 _ c.if-rem-here.false q.0 q.1 q.2 (λ y. going (rw e at c.is_runend.ensures.0 ∙ y))
+
+pub loop-shape-preserved : goal.loop-shape-preserved
+loop-shape-preserved c = (omega (arith, c.slots-slots.ensures.0), on (goal.at.loop-shape-preserved c).After-is_runend c.if-is_runend-eq1.false)
 
 pub returns-then-rem-here : goal.returns-then-rem-here
 returns-then-rem-here c =
-    let e = c.slots-slots.ensures.0 in
-    scanned_inside _ (seen (goal.at.returns-then-rem-here c).At-loop-shape) _ _ c.loop-shape.k _ _ c.loop-shape.invariant.1 (rw e at c.get_remainder-here.ensures.0) c.loop-shape.invariant.0 c.if-rem-here.true
+    scanned_inside _ _ _ _ c.loop-shape.k _ _ c.loop-shape.invariant.1 (rw c.slots-slots.ensures.0 at c.get_remainder-here.ensures.0) c.loop-shape.invariant.0 c.if-rem-here.true
 
 pub returns-then-is_runend-eq1 : goal.returns-then-is_runend-eq1
 returns-then-is_runend-eq1 c =
     let e = c.slots-slots.ensures.0 in
     let q = c.equal-copies.ensures in
-    scanned_end _ (seen (goal.at.returns-then-is_runend-eq1 c).At-loop-shape) _ _ c.loop-shape.k _ _ c.loop-shape.invariant.1 (rw e at c.get_remainder-here.ensures.0) c.loop-shape.invariant.0 _ c.if-rem-here.false q.0 q.1 q.2 (sym (rw e at c.is_runend.ensures.0) ∙ c.if-is_runend-eq1.true)
+    elim c.then-is_runend-eq1.either [
+      | inl y ↦ scanned_end _ _ _ _ c.loop-shape.k _ _ c.loop-shape.invariant.1 (rw e at c.get_remainder-here.ensures.0) c.loop-shape.invariant.0 _ c.if-rem-here.false q.0 q.1 q.2 (sym (rw e at c.is_runend.ensures.0) ∙ y)
+      | inr y ↦ scanned_round _ _ _ _ (c.loop-shape.k + 1) _ (y.1 ∙ e) (omega arith) (on (goal.at.returns-then-is_runend-eq1 c).After-is_runend y.0)
+    ]
