@@ -1,5 +1,5 @@
 -- The core of insert keeps the rule of the theory, Changing, on a buffer that shows a list.
-use Rattle.std.specs.Prelude.{ℕ, suc, ◌+◌, ◌*◌, ◌/◌, ◌%◌, ◌^◌, ◌≤◌, ◌<◌, ◌≡◌, refl, List, length}
+use Rattle.std.specs.Prelude.{Some, None, Result, Ok, Err, ℕ, suc, ◌+◌, ◌*◌, ◌/◌, ◌%◌, ◌^◌, ◌≤◌, ◌<◌, ◌≡◌, refl, List, length}
 use Rattle.std.proofs.Common.{sym, ap, ◌∙◌, arith, pow_pos}
 use Rattle.theory.specs.Shape.{slots, capacity, blocks, fingerprint}
 use Rattle.theory.specs.Answer.{Answer, gives, refuses}
@@ -18,10 +18,12 @@ use Rattle.theory.specs.images.Sizes.{slots_blocks, fingerprint_lt, capacity_lt}
 use Rattle.theory.specs.reading.FreeSlot.{run_before}
 use Rattle.theory.specs.writing.OneMore.{more_holding, room}
 use Rattle.theory.specs.writing.Inserting.{Wrote, tail_was, written_image}
-use Rattle.bits.specs.declared.select.Found.TheVariants.{At, Nothing}
+use Rattle.layout.specs.declared.refusal.Refusal.{Refusal}
+use Rattle.layout.specs.declared.refusal.Refusal.TheVariants.{NotSound, NoRoom}
 use Rattle.layout.specs.declared.shape.Shape.{Shape}
+use Rattle.layout.specs.Refusals.{says}
 use Rattle.writing.specs.declared.insert.Insertion.{Insertion}
-use Rattle.writing.specs.declared.insert.Insertion.TheVariants.{Enough, Added, Refused}
+use Rattle.writing.specs.declared.insert.Insertion.TheVariants.{Enough, Added}
 use Rattle.writing.specs.declared.insert.Spot.{Spot}
 use Rattle.filter.specs.Runs.{FreeFrom}
 use Rattle.writing.specs.CopyIn.{SpotIn, SpotFor}
@@ -32,29 +34,31 @@ pub record CoreAnswer : Type 0 where
   pub answer : ℕ
   pub len : ℕ
 
-abbrev pub insertion_says : ℕ → Insertion → Answer CoreAnswer
-insertion_says len (Enough c) = gives (record { answer = c; len = len })
-insertion_says len (Added m) = gives (record { answer = m; len = len + 1 })
-insertion_says len (Refused k) = refuses k
+abbrev pub insertion_as : ℕ → Insertion → CoreAnswer
+insertion_as len (Enough c) = record { answer = c; len = len }
+insertion_as len (Added m) = record { answer = m; len = len + 1 }
+
+abbrev pub insertion_says : ℕ → Result Insertion Refusal → Answer CoreAnswer
+insertion_says len = says (insertion_as len)
 
 -- the rule of insert, if the buffer shows l, of len fingerprints
-pub record InsertsAs (h : Shape) (len f most : ℕ) (l : List ℕ) (s : List ℕ) (a : Insertion) (t : List ℕ) : Type 0 where
+pub record InsertsAs (h : Shape) (len f most : ℕ) (l : List ℕ) (s : List ℕ) (a : Result Insertion Refusal) (t : List ℕ) : Type 0 where
   pub refused : 0 < insert_due (capacity h.qbits) most f l → (insertion_says len a ≡ refuses (insert_due (capacity h.qbits) most f l)) × (t ≡ s)
   pub done : insert_due (capacity h.qbits) most f l ≡ 0
       → (insertion_says len a ≡ gives (record { answer = insert_answer most f l; len = length (inserted most f l) })) × Shows h t (inserted most f l)
 
 -- an insert that adds a copy was below capacity
-abbrev pub Below : Shape → ℕ → Insertion → Type 0
-Below h len (Added m) = len < capacity h.qbits
-Below h len (Enough c) = Unit {0}
-Below h len (Refused k) = Unit {0}
+abbrev pub Below : Shape → ℕ → Result Insertion Refusal → Type 0
+Below h len (Ok (Added m)) = len < capacity h.qbits
+Below h len (Ok (Enough c)) = Unit {0}
+Below h len (Err e) = Unit {0}
 
 -- and on any buffer the last eight bytes stay, what is refused has changed nothing, a copy is added only below capacity, and with max_count 0 the answer is 0 and nothing changes
-pub record InsertsCore (h : Shape) (len hash most : ℕ) (s : List ℕ) (a : Insertion) (t : List ℕ) : Type 0 where
+pub record InsertsCore (h : Shape) (len hash most : ℕ) (s : List ℕ) (a : Result Insertion Refusal) (t : List ℕ) : Type 0 where
   pub right : (l : List ℕ) → Shows h s l → length l ≡ len → InsertsAs h len (fingerprint h.qbits h.rbits hash) most l s a t
-  pub kept : (k : ℕ) → a ≡ Refused k → t ≡ s
+  pub kept : (e : Refusal) → a ≡ Err e → t ≡ s
   pub below : Below h len a
-  pub looks : most ≡ 0 → (a ≡ Enough 0) × (t ≡ s)
+  pub looks : most ≡ 0 → (a ≡ Ok (Enough 0)) × (t ≡ s)
   pub tail : tail_at h.rbits (blocks h.qbits) (le t) ≡ tail_at h.rbits (blocks h.qbits) (le s)
 
 -- how the code comes to it
@@ -88,7 +92,7 @@ module _ (h : Shape) (low : 6 ≤ h.qbits) (s : List ℕ) (len hash most x rem :
   counted_all : (l : List ℕ) → Shows h s l → p.copies ≡ copies f l
   counted_all l w = (spot l w).met ∙ sym (copies_run (2 ^ h.rbits) (pow_pos h.rbits) f l)
 
-  pub core_enough : most ≤ p.copies → InsertsCore h len hash most s (Enough most) s
+  pub core_enough : most ≤ p.copies → InsertsCore h len hash most s (Ok (Enough most)) s
   core_enough q = record {
     right = λ l w n.
         let enough : most ≤ copies f l = omega (arith, counted_all l w) in
@@ -99,7 +103,7 @@ module _ (h : Shape) (low : 6 ≤ h.qbits) (s : List ℕ) (len hash most x rem :
         };
     kept = λ k z. refl;
     below = tt;
-    looks = λ z. (ap Enough z, refl);
+    looks = λ z. (ap (λ c. Ok (Enough c)) z, refl);
     tail = refl;
   }
 
@@ -111,7 +115,7 @@ module _ (h : Shape) (low : 6 ≤ h.qbits) (s : List ℕ) (len hash most x rem :
     not_zero : {P : Type 0} → most ≡ 0 → P
     not_zero z = absurd (omega arith)
 
-    pub core_full : capacity h.qbits ≤ len → InsertsCore h len hash most s (Refused 7) s
+    pub core_full : capacity h.qbits ≤ len → InsertsCore h len hash most s (Err NoRoom) s
     core_full y = record {
       right = λ l w n.
           let due = full_due_lem cap most f l (fewer_held l w) (omega arith) in
@@ -126,17 +130,17 @@ module _ (h : Shape) (low : 6 ≤ h.qbits) (s : List ℕ) (len hash most x rem :
     free : (l : List ℕ) (w : Shows h s l) → FirstFree m (counts l) x
     free l w = first_free m (counts l) (shown_runs h s l w x b).round x
 
-    damaged : ((l : List ℕ) → Shows h s l → ⊥) → InsertsCore h len hash most s (Refused 6) s
+    damaged : ((l : List ℕ) → Shows h s l → ⊥) → InsertsCore h len hash most s (Err NotSound) s
     damaged never = record { right = λ l w n. absurd (never l w); kept = λ k z. refl; below = tt; looks = not_zero; tail = refl }
 
-    pub core_missed : FreeFrom m v x Nothing → InsertsCore h len hash most s (Refused 6) s
+    pub core_missed : FreeFrom m v x None → InsertsCore h len hash most s (Err NotSound) s
     core_missed k = damaged (λ l w. let z : ◌≡◌ {A = ℕ} 0 1 = cc (k.right (counts l) (shown_runs h s l w x b) w.image.offsets (free l w)) in omega arith)
 
-    module _ (e : ℕ) (k : FreeFrom m v x (At e)) where
+    module _ (e : ℕ) (k : FreeFrom m v x (Some e)) where
       at_free : (l : List ℕ) (w : Shows h s l) → e ≡ (free l w).at
       at_free l w = cc (k.right (counts l) (shown_runs h s l w x b) w.image.offsets (free l w))
 
-      pub core_before : e < p.slot → InsertsCore h len hash most s (Refused 6) s
+      pub core_before : e < p.slot → InsertsCore h len hash most s (Err NotSound) s
       core_before y = damaged (λ l w. omega (arith, at_free l w, run_before m (counts l) x (free l w), (sp.right l w).at, place_le rem (run (2 ^ h.rbits) l x), many_at m (2 ^ h.rbits) l x b))
 
       module _ (t : List ℕ) (y : Wrote h.rbits m (blocks h.qbits) x p.slot p.bit_slot e rem p.bit (le s) (le t))
@@ -158,7 +162,7 @@ module _ (h : Shape) (low : 6 ≤ h.qbits) (s : List ℕ) (len hash most x rem :
                 let k' = rw ex at k in
                 cc (k'.right (counts l) (shown_runs h s l w x b) w.image.offsets z)
 
-        pub core_added : InsertsCore h len hash most s (Added p.copies) t
+        pub core_added : InsertsCore h len hash most s (Ok (Added p.copies)) t
         core_added = record {
           right = λ l w n.
               let few = fewer_held l w in

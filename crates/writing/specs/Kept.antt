@@ -1,5 +1,5 @@
 -- Sound stays sound: the buffer that an insert or a remove leaves, with the record that it gives, is a sound filter. Assumes nothing.
-use Rattle.std.specs.Prelude.{ℕ, ◌^◌, ◌≤◌, ◌≡◌, refl, List, length}
+use Rattle.std.specs.Prelude.{Some, Ok, ℕ, ◌^◌, ◌≤◌, ◌≡◌, refl, List, length}
 use Rattle.std.proofs.Common.{sym, ap, subst, ◌∙◌, arith, pow_pos}
 use Rattle.theory.specs.Answer.{gives}
 use Rattle.theory.specs.Shape.{slots, capacity}
@@ -15,8 +15,6 @@ use Rattle.layout.specs.Judging.{clear_of, held_within}
 use Rattle.layout.specs.declared.numbers.Numbers.{Numbers}
 use Rattle.layout.specs.Records.{with_len, Changed, changed, lowest_due, SoundOf, fingerprint_of, HoldsOf}
 use Rattle.layout.specs.Outcomes.{leaves_given}
-use Rattle.writing.specs.declared.writers.Inserted.TheVariants.{Counted}
-use Rattle.writing.specs.declared.writers.Removed.TheVariants.{Gone}
 use Rattle.writing.specs.Writing.{TurnsOn, inserting, removing, Insert, Remove}
 
 -- holdings of the widths of a record, of at most capacity
@@ -63,8 +61,8 @@ module _ (n : Numbers) (rule : Rule) (s : List ℕ) (c : Changed) (t : List ℕ)
         holds = other_holds n s y.0.none (rule.held l) t w.2 h;
       })
 
-pub insert_sound : (n : Numbers) (hash most : ℕ) (s : List ℕ) (m : ℕ) (n' : Numbers) (t : List ℕ) → Insert n hash most s (Counted m n') t → SoundOf n' t
+pub insert_sound : (n : Numbers) (hash most : ℕ) (s : List ℕ) (m : ℕ) (n' : Numbers) (t : List ℕ) → Insert n hash most s (Ok (m, n')) t → SoundOf n' t
 insert_sound n hash most s m n' t = turn_sound n (inserting n hash most) s (changed m n') t (λ l e h. insert_holding n s l e h hash most)
 
-pub remove_sound : (n : Numbers) (hash : ℕ) (s : List ℕ) (n' : Numbers) (t : List ℕ) → Remove n hash s (Gone n') t → SoundOf n' t
+pub remove_sound : (n : Numbers) (hash : ℕ) (s : List ℕ) (n' : Numbers) (t : List ℕ) → Remove n hash s (Ok (Some n')) t → SoundOf n' t
 remove_sound n hash s n' t = turn_sound n (removing n hash) s (changed 1 n') t (λ l e h _. remove_holding n s l e h hash)

@@ -1,16 +1,15 @@
 -- What the promises of insert and remove pin down: any two outcomes (the answer with its record, and every lent byte) that keep the promise coincide. Checked calls: for all inputs.
 -- Quick calls: where a number 1 to 5 is due or the buffer is sound, and there they equal the checked ones; an insert with max_count 0 also on every
 -- other buffer, though there the checked one gives 6. What is left open is in docs/EXCEPTIONS.md. Assumes nothing.
-use Rattle.std.specs.Prelude.{ℕ, ◌<◌, ◌≡◌, ◌⊎◌, List}
+use Rattle.std.specs.Prelude.{Option, Result, ℕ, ◌<◌, ◌≡◌, ◌⊎◌, List}
 use Rattle.std.proofs.Common.{inl, inr, eq-zero-or-pos}
 use Rattle.theory.specs.Answer.{Answer, refuses}
 use Rattle.theory.specs.Changing.{Rule}
 use Rattle.theory.specs.refusals.Demands.{checked_one, quick_one, quick_checked}
 use Rattle.layout.specs.declared.numbers.Numbers.{Numbers}
+use Rattle.layout.specs.declared.refusal.Refusal.{Refusal}
 use Rattle.layout.specs.Records.{Changed, lowest_due}
 use Rattle.layout.specs.Outcomes.{Settled, alike, apart, leaves_one}
-use Rattle.writing.specs.declared.writers.Inserted.{Inserted}
-use Rattle.writing.specs.declared.writers.Removed.{Removed}
 use Rattle.writing.specs.Says.{inserted_says, inserted_tells, removed_says, removed_tells}
 use Rattle.writing.specs.Writing.{Turns, TurnsOn, TurnsQuick, InsertLeaves, RemoveLeaves, inserting, removing, Insert, InsertQuick, Remove, RemoveQuick}
 
@@ -44,7 +43,7 @@ module _ {E : Type 0} (says : E → Answer Changed) (tells : (a b : E) → says 
 abbrev pub InsertSettled : Numbers → ℕ → List ℕ → Type 0
 InsertSettled n most s = Settled n s ⊎ (most ≡ 0)
 
-module _ (n : Numbers) (hash most : ℕ) (s : List ℕ) (a b : Inserted) (t u : List ℕ) where
+module _ (n : Numbers) (hash most : ℕ) (s : List ℕ) (a b : Result (ℕ × Numbers) Refusal) (t u : List ℕ) where
   pub insert_fingerprint_counting_pinned : Insert n hash most s a t → Insert n hash most s b u → (a ≡ b) × (t ≡ u)
   insert_fingerprint_counting_pinned = turn_pinned inserted_says inserted_tells n (inserting n hash most) s a b t u
 
@@ -53,7 +52,7 @@ module _ (n : Numbers) (hash most : ℕ) (s : List ℕ) (a b : Inserted) (t u : 
       quick_turn_pinned inserted_says inserted_tells n (inserting n hash most) s a b t u (λ x. InsertLeaves n most s x.0 x.1) d p q
   insert_fingerprint_counting_quick_pinned (inr z) p q = apart (a, t) (b, u) (go (eq-zero-or-pos (lowest_due n s)))
     where
-      go : (lowest_due n s ≡ 0) ⊎ (0 < lowest_due n s) → ◌≡◌ {A = Inserted × List ℕ} (a, t) (b, u)
+      go : (lowest_due n s ≡ 0) ⊎ (0 < lowest_due n s) → ◌≡◌ {A = Result (ℕ × Numbers) Refusal × List ℕ} (a, t) (b, u)
       go (inl c) = alike inserted_says inserted_tells (a, t) (b, u) (p.other.3 z c) (q.other.3 z c)
       go (inr h) = alike inserted_says inserted_tells (a, t) (b, u) (p.early h) (q.early h)
 
@@ -62,7 +61,7 @@ module _ (n : Numbers) (hash most : ℕ) (s : List ℕ) (a b : Inserted) (t u : 
   insert_quick_checked = turn_quick_checked inserted_says inserted_tells n (inserting n hash most) s a b t u (λ x. InsertLeaves n most s x.0 x.1)
 
 -- ---- remove
-module _ (n : Numbers) (hash : ℕ) (s : List ℕ) (a b : Removed) (t u : List ℕ) where
+module _ (n : Numbers) (hash : ℕ) (s : List ℕ) (a b : Result (Option Numbers) Refusal) (t u : List ℕ) where
   pub remove_fingerprint_pinned : Remove n hash s a t → Remove n hash s b u → (a ≡ b) × (t ≡ u)
   remove_fingerprint_pinned = turn_pinned (removed_says n) (removed_tells n) n (removing n hash) s a b t u
 

@@ -1,8 +1,8 @@
 -- The core of remove keeps the rule of the theory, Changing, on a buffer that shows a list.
-use Rattle.std.specs.Prelude.{ℕ, suc, ◌+◌, ◌-◌, ◌*◌, ◌/◌, ◌%◌, ◌^◌, ◌≤◌, ◌<◌, min, ◌≡◌, refl, ◌⊎◌, List, length}
+use Rattle.std.specs.Prelude.{Some, None, Result, Ok, Err, IsOkUnless, Bool, true, false, ℕ, suc, ◌+◌, ◌-◌, ◌*◌, ◌/◌, ◌%◌, ◌^◌, ◌≤◌, ◌<◌, min, ◌≡◌, refl, ◌⊎◌, List, length}
 use Rattle.std.proofs.Common.{sym, ap, ◌∙◌, inl, inr, arith, eq-zero-or-pos, pow_pos}
 use Rattle.theory.specs.Shape.{slots, blocks, fingerprint}
-use Rattle.theory.specs.Answer.{Answer, gives, refuses}
+use Rattle.theory.specs.Answer.{Answer, gives}
 use Rattle.theory.specs.Holding.{copies, fewer, more, run, Holding}
 use Rattle.theory.specs.Changing.{remove_answer}
 use Rattle.theory.specs.Image.{Views, many, start, carry}
@@ -21,42 +21,53 @@ use Rattle.theory.specs.reading.LastShifted.{LastShifted}
 use Rattle.theory.specs.writing.Removing.{TookOut, taken_tail, taken_runs, removed_image, room_shifted, start_kept, carry_without, put_back, fewer_length, fewer_holding, run_shorter, last_goes}
 use Rattle.theory.specs.images.Sizes.{slots_blocks, fingerprint_lt}
 use Rattle.theory.specs.images.ByViews.{Image, many_at}
-use Rattle.bits.specs.declared.select.Found.TheVariants.{At, Nothing}
+use Rattle.layout.specs.declared.refusal.Refusal.{Refusal}
+use Rattle.layout.specs.declared.refusal.Refusal.TheVariants.{NotSound}
 use Rattle.layout.specs.declared.shape.Shape.{Shape}
+use Rattle.layout.specs.Refusals.{says}
 use Rattle.writing.specs.declared.remove.GoingCopy.{GoingCopy}
-use Rattle.writing.specs.declared.remove.Going.TheVariants.{Copy, NoCopy}
-use Rattle.writing.specs.declared.remove.Removal.{Removal}
-use Rattle.writing.specs.declared.remove.Removal.TheVariants.{Gone, Absent, Damaged}
 use Rattle.writing.specs.CopyOut.{GoingFor, GoingIn}
 use Rattle.filter.specs.Lookup.{Shows, shown_runs}
 use Rattle.theory.specs.reading.Walks.{OffsetOf}
 use Rattle.writing.specs.Shifted.{ShiftedFrom, Renews}
 
 -- what is written: all but the offset bytes, then those told anew from the carry o before the quotient's block, less one if the slot cleared lies in that block, a round on
-pub record WroteOut (r m B q : ℕ) (p : GoingCopy) (e x : ℕ) (a : Removal) (x' : ℕ) : Type 0 where
+pub record WroteOut (r m B q : ℕ) (p : GoingCopy) (e x : ℕ) (a : Result Unit Refusal) (x' : ℕ) : Type 0 where
   pub o : ℕ
   pub x₁ : ℕ
   pub offset : OffsetOf m (views r x) (q / 64) o
   pub took : TookOut r m B q p.slot p.bit_slot e p.bit x x₁
   pub renewed : Renews r m B (q / 64) (e / 64 - q / 64) (o - upto e (64 * (q / 64) + m)) x₁ a x'
 
--- what the core of a remove says: true, 1, or false, 0; or that the buffer is not the image
-abbrev pub removal_says : Removal → Answer ℕ
-removal_says Gone = gives 1
-removal_says Absent = gives 0
-removal_says Damaged = refuses 6
+-- what the core of a remove says: true, 1, or false, 0
+abbrev pub removal_as : Bool → ℕ
+removal_as true = 1
+removal_as false = 0
+
+abbrev pub removal_says : Result Bool Refusal → Answer ℕ
+removal_says = says removal_as
 
 -- the rule of remove
-pub record RemovesAs (h : Shape) (f : ℕ) (l : List ℕ) (a : Removal) (t : List ℕ) : Type 0 where
+pub record RemovesAs (h : Shape) (f : ℕ) (l : List ℕ) (a : Result Bool Refusal) (t : List ℕ) : Type 0 where
   pub says : removal_says a ≡ gives (remove_answer f l)
   pub shows : Shows h t (fewer f l)
 
--- if the buffer shows l; and on any buffer the last eight bytes stay
-pub record RemovesCore (h : Shape) (hash : ℕ) (s : List ℕ) (a : Removal) (t : List ℕ) : Type 0 where
+-- if the buffer shows l; and on any buffer nothing but 6 is refused, and the last eight bytes stay
+pub record RemovesCore (h : Shape) (hash : ℕ) (s : List ℕ) (a : Result Bool Refusal) (t : List ℕ) : Type 0 where
   pub right : (l : List ℕ) → Shows h s l → RemovesAs h (fingerprint h.qbits h.rbits hash) l a t
+  pub damaged : IsOkUnless a NotSound
   pub tail : tail_at h.rbits (blocks h.qbits) (le t) ≡ tail_at h.rbits (blocks h.qbits) (le s)
 
 -- how the code comes to it
+-- the core's answer, by that of the writes
+abbrev pub gone : Result Unit Refusal → Result Bool Refusal
+gone (Ok _) = Ok true
+gone (Err e) = Err e
+
+gone_damaged : (a : Result Unit Refusal) → IsOkUnless a NotSound → IsOkUnless (gone a) NotSound
+gone_damaged (Ok _) d = tt
+gone_damaged (Err e) d = d
+
 module _ (h : Shape) (low : 6 ≤ h.qbits) (s : List ℕ) (hash x rem : ℕ)
     (ex : x ≡ fingerprint h.qbits h.rbits hash / 2 ^ h.rbits) (b : x < slots h.qbits) (er : rem ≡ fingerprint h.qbits h.rbits hash % 2 ^ h.rbits) where
   abbrev f : ℕ
@@ -74,24 +85,25 @@ module _ (h : Shape) (low : 6 ≤ h.qbits) (s : List ℕ) (hash x rem : ℕ)
   abbrev counts : List ℕ → ℕ → ℕ
   counts l = many (slots h.qbits) (2 ^ h.rbits) l
 
-  pub core_absent : GoingFor h s x rem NoCopy → RemovesCore h hash s Absent s
+  pub core_absent : GoingFor h s x rem None → RemovesCore h hash s (Ok false) s
   core_absent p = record {
     right = λ l w. record { says = ap gives (sym (absent_answer f l (none l w))); shows = rw (fewer_absent f l (none l w)) w };
+    damaged = tt;
     tail = refl;
   }
     where
       none : (l : List ℕ) → Shows h s l → copies f l ≡ 0
       none l w = copies_run R (pow_pos h.rbits) f l ∙ (rw (ex, er) at (p.right l w))
 
-  module _ (p : GoingCopy) (g : GoingFor h s x rem (Copy p)) where
+  module _ (p : GoingCopy) (g : GoingFor h s x rem (Some p)) where
     copy : (l : List ℕ) → Shows h s l → GoingIn m (counts l) (f / R) (f % R) (run R l (f / R)) p
     copy l w = rw (ex, er) at (g.right l w)
 
     held : (l : List ℕ) → Shows h s l → 0 < copies f l
     held l w = rw (copies_run R (pow_pos h.rbits) f l) (last_held (f % R) (run R l (f / R)) (copy l w).place (copy l w).last)
 
-    damaged : ((l : List ℕ) → Shows h s l → ⊥) → RemovesCore h hash s Damaged s
-    damaged never = record { right = λ l w. absurd (never l w); tail = refl }
+    damaged : ((l : List ℕ) → Shows h s l → ⊥) → RemovesCore h hash s (Err NotSound) s
+    damaged never = record { right = λ l w. absurd (never l w); damaged = refl; tail = refl }
 
     -- the holding with one copy fewer
     module _ (l : List ℕ) (w : Shows h s l) where
@@ -110,10 +122,10 @@ module _ (h : Shape) (low : 6 ≤ h.qbits) (s : List ℕ) (hash x rem : ℕ)
       shifted : LastShifted m (counts l) (f / R) (room m R (pow_pos h.rbits) (fewer f l) f rest u few).at
       shifted = rw back at (room_shifted h.rbits m (blocks h.qbits) (slots_blocks h.qbits low) (fewer f l) f rest u few)
 
-    pub core_unshifted : ShiftedFrom m v x Nothing → RemovesCore h hash s Damaged s
+    pub core_unshifted : ShiftedFrom m v x None → RemovesCore h hash s (Err NotSound) s
     core_unshifted k = damaged (λ l w. let k' = rw ex at k in let z : ◌≡◌ {A = ℕ} 0 1 = cc (k'.right (counts l) (shown_runs h s l w x b) w.image.offsets _ (shifted l w)) in omega arith)
 
-    module _ (e : ℕ) (k : ShiftedFrom m v x (At e)) where
+    module _ (e : ℕ) (k : ShiftedFrom m v x (Some e)) where
       at_freed : (l : List ℕ) (w : Shows h s l) → e ≡ (room m R (pow_pos h.rbits) (fewer f l) f (rest l w) (u l w) (few l w)).at
       at_freed l w =
           let k' = rw ex at k in
@@ -132,12 +144,12 @@ module _ (h : Shape) (low : 6 ≤ h.qbits) (s : List ℕ) (hash x rem : ℕ)
       size : (l : List ℕ) (w : Shows h s l) → length (run R l (f / R)) ≡ suc (counts (fewer f l) (f / R))
       size l w = run_shorter m R (pow_pos h.rbits) f l w.holding (held l w) ∙ ap suc (sym (many_at m R (fewer f l) (f / R) (rw ex at b)))
 
-      pub core_before : e < p.slot → RemovesCore h hash s Damaged s
+      pub core_before : e < p.slot → RemovesCore h hash s (Err NotSound) s
       core_before y = damaged (λ l w.
           let z = room m R (pow_pos h.rbits) (fewer f l) f (rest l w) (u l w) (few l w) in
           omega (arith, at_freed l w, run_before m (counts (fewer f l)) (f / R) z, slot_is l w, place_le (f % R) (run R (fewer f l) (f / R)), many_at m R (fewer f l) (f / R) (rw ex at b)))
 
-      module _ (a : Removal) (t : List ℕ) (small : p.bit < 2) (bound : e < x + m) (y : WroteOut h.rbits m (blocks h.qbits) x p e (le s) a (le t)) where
+      module _ (a : Result Unit Refusal) (t : List ℕ) (small : p.bit < 2) (bound : e < x + m) (y : WroteOut h.rbits m (blocks h.qbits) x p e (le s) a (le t)) where
         module _ (l : List ℕ) (w : Shows h s l) where
           abbrev n : ℕ → ℕ
           n = counts (fewer f l)
@@ -174,7 +186,7 @@ module _ (h : Shape) (low : 6 ≤ h.qbits) (s : List ℕ) (hash x rem : ℕ)
               let c = rw (back l w) at (carry_without h.rbits m (blocks h.qbits) (slots_blocks h.qbits low) (fewer f l) f (rest l w) (u l w) (few l w)) in
               omega (arith, wrote.offset.right (counts l) (shown_runs h s l w x b) w.image.offsets, ap (λ g. upto g (64 * (f / R / 64) + m)) (at_freed l w), c)
 
-          done : (a ≡ Gone) × Shows h t (fewer f l)
+          done : (a ≡ Ok tt) × Shows h t (fewer f l)
           done =
               let g = wrote.renewed.right n runs carried (omega (arith, slots_blocks h.qbits low)) in (
                 g.0,
@@ -185,8 +197,9 @@ module _ (h : Shape) (low : 6 ≤ h.qbits) (s : List ℕ) (hash x rem : ℕ)
                 },
               )
 
-        pub core_gone : RemovesCore h hash s a t
+        pub core_gone : RemovesCore h hash s (gone a) t
         core_gone = record {
-          right = λ l w. record { says = ap removal_says (done l w).0 ∙ ap gives (sym (held_answer f l (held l w))); shows = (done l w).1 };
+          right = λ l w. record { says = ap (λ z. removal_says (gone z)) (done l w).0 ∙ ap gives (sym (held_answer f l (held l w))); shows = (done l w).1 };
+          damaged = gone_damaged a y.renewed.damaged;
           tail = y.renewed.apart.tail ∙ taken_tail h.rbits m (blocks h.qbits) x p.slot p.bit_slot e p.bit (le s) y.x₁ (slots_blocks h.qbits low) b small y.took;
         }

@@ -1,6 +1,6 @@
 -- What follows of the promises of insert and remove: inserting and then removing one copy puts every byte and the record back, and the order of inserts leaves no trace.
 -- Said of checked calls; on a sound buffer the quick ones are equal (Pinned). How offsets at 254, 255 and 256 go up and down is in the theory, writing/SaturatedOffsets. Assumes nothing.
-use Rattle.std.specs.Prelude.{ℕ, suc, ◌<◌, ◌≡◌, refl, ◌⊎◌, List, [], ◌∷◌, map, length}
+use Rattle.std.specs.Prelude.{Option, Some, Result, Ok, ℕ, suc, ◌<◌, ◌≡◌, refl, ◌⊎◌, List, [], ◌∷◌, map, length}
 use Rattle.std.proofs.Common.{sym, ap, subst, ◌∙◌, inl, inr, arith}
 use Rattle.theory.specs.Answer.{gives}
 use Rattle.theory.specs.Shape.{capacity}
@@ -12,11 +12,9 @@ use Rattle.theory.specs.list.RuleCases.{due_none, held_answer}
 use Rattle.theory.specs.list.Copies.{copies_more_here}
 use Rattle.theory.specs.list.NoTrace.{fewer_more, added_order}
 use Rattle.layout.specs.declared.numbers.Numbers.{Numbers}
+use Rattle.layout.specs.declared.refusal.Refusal.{Refusal}
 use Rattle.layout.specs.Records.{with_len, Changed, changed, lowest_due, SoundOf, fingerprint_of, HoldsOf}
 use Rattle.layout.specs.Outcomes.{leaves_given}
-use Rattle.writing.specs.declared.writers.Inserted.TheVariants.{Counted}
-use Rattle.writing.specs.declared.writers.Removed.{Removed}
-use Rattle.writing.specs.declared.writers.Removed.TheVariants.{Gone}
 use Rattle.writing.specs.Says.{removed_says, removed_tells}
 use Rattle.writing.specs.Writing.{Turns, inserting, Insert, Remove}
 use Rattle.writing.specs.Kept.{HoldingWithin, other_clear, other_holds, insert_holding}
@@ -25,7 +23,7 @@ use Rattle.writing.specs.Kept.{HoldingWithin, other_clear, other_holds, insert_h
 pub record Adds (n : Numbers) (hash : ℕ) (s : List ℕ) (n' : Numbers) (t : List ℕ) : Type 0 where
   pub most : ℕ
   pub answer : ℕ
-  pub kept : Insert n hash most s (Counted answer n') t
+  pub kept : Insert n hash most s (Ok (answer, n')) t
   pub longer : n'.len ≡ suc n.len
 
 -- the filter afterwards: its record, its buffer and its list
@@ -54,7 +52,7 @@ module _ (n : Numbers) (s l : List ℕ) (e : lowest_due n s ≡ 0) (h : HoldsOf 
       go (inr z) = record { numbers = rw z.0 at numbers; bytes = rw z.0 at w.2; holding = rw z.0 at (insert_holding n s l e h hash most w.0) }
 
   -- taking it out puts record and buffer back
-  pub put_back : (n' : Numbers) (t : List ℕ) → Grown n l f n' t → (a : Removed) (u : List ℕ) → Remove n' hash t a u → (a ≡ Gone n) × (u ≡ s)
+  pub put_back : (n' : Numbers) (t : List ℕ) → Grown n l f n' t → (a : Result (Option Numbers) Refusal) (u : List ℕ) → Remove n' hash t a u → (a ≡ Ok (Some n)) × (u ≡ s)
   put_back n' t g a u p =
       let n₁ = with_len n (length (more f l)) in
       let q : Remove n₁ hash t a u = subst (λ (z : Numbers). Remove z hash t a u) g.numbers p in
@@ -62,12 +60,12 @@ module _ (n : Numbers) (s l : List ℕ) (e : lowest_due n s ≡ 0) (h : HoldsOf 
       let back = fewer_more f l h.holding.ascending in
       let one = held_answer f (more f l) (omega (arith, copies_more_here f l)) in
       let len : length (fewer f (more f l)) ≡ n.len = ap length back ∙ h.many in
-      let says : removed_says n₁ a ≡ removed_says n₁ (Gone n) = r.0 ∙ (λ i. gives (changed (one i) (with_len n (len i)))) in
-      (removed_tells n₁ a (Gone n) says, r.1 ∙ ap (image n.qbits n.rbits) back ∙ sym h.bytes)
+      let says : removed_says n₁ a ≡ removed_says n₁ (Ok (Some n)) = r.0 ∙ (λ i. gives (changed (one i) (with_len n (len i)))) in
+      (removed_tells n₁ a (Ok (Some n)) says, r.1 ∙ ap (image n.qbits n.rbits) back ∙ sym h.bytes)
 
 -- ---- inserting and then removing one copy puts every byte and the record back
 pub insert_remove : (n : Numbers) (s : List ℕ) → SoundOf n s → (hash : ℕ) (n' : Numbers) (t : List ℕ) → Adds n hash s n' t
-    → (a : Removed) (u : List ℕ) → Remove n' hash t a u → (a ≡ Gone n) × (u ≡ s)
+    → (a : Result (Option Numbers) Refusal) (u : List ℕ) → Remove n' hash t a u → (a ≡ Ok (Some n)) × (u ≡ s)
 insert_remove n s y hash n' t x =
     put_back n s y.held y.none y.holds hash n' t
     (grown n s y.held y.none y.holds hash x.most x.answer n' t (x.kept.sound y.none y.held y.holds) x.longer)

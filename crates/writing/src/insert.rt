@@ -9,9 +9,9 @@ ghost use Rattle.writing.specs.Insert.{InsertsCore};
 
 use crate::shift;
 use bits::compare::equal;
-use bits::select::Found;
 use filter::lookup::{quotient, remainder};
 use filter::runs::{first_free, run_start, unrolled};
+use layout::refusal::Refusal;
 use layout::shape::Shape;
 use layout::slot;
 
@@ -31,16 +31,14 @@ pub struct Spot {
     pub copies: u64,
 }
 
-// What the core of an insert says: nothing changed, one copy more, or refused.
+// What the core of an insert says: nothing changed, or one copy more.
 #[derive(Clone, Copy)]
 pub enum Insertion {
     Enough(u64),
     Added(u64),
-    Refused(u8),
 }
 
 // The place that one copy more of `rem` takes in the run that starts at slot `at`, left from inside once a larger remainder or the run's end is met.
-// Kept: the project's rules want the scans over a run's slots as loops left by break.
 fn scan(buf: &[u8], shape: Shape, at: u64, rem: u64) -> Stop
     requires { (Whole shape (length buf.now)) × (at < slots shape.qbits) }
     ensures { Scanned (slots shape.qbits) (views_in shape buf.now) at rem result }
@@ -48,6 +46,7 @@ fn scan(buf: &[u8], shape: Shape, at: u64, rem: u64) -> Stop
     let slots = shape.slots();
     let mut k = 0;
     let mut copies = 0;
+    // Kept: a scan of a run's slots is a loop left by break.
     loop {
         let s = (at + k) % slots;
         let here = slot::get_remainder(buf, shape, s);
@@ -114,7 +113,13 @@ fn write_in(buf: &mut [u8], shape: Shape, x: u64, rem: u64, spot: Spot, e: u64)
 }
 
 // The rule of insert: copies counted first, then capacity asked, then one copy more.
-pub fn insert_core(buf: &mut [u8], shape: Shape, len: u64, hash: u64, max_count: u64) -> Insertion
+pub fn insert_core(
+    buf: &mut [u8],
+    shape: Shape,
+    len: u64,
+    hash: u64,
+    max_count: u64,
+) -> Result<Insertion, Refusal>
     requires { Whole shape (length buf.old) }
     ensures { InsertsCore shape len hash max_count buf.old result buf.new }
 {
@@ -122,17 +127,17 @@ pub fn insert_core(buf: &mut [u8], shape: Shape, len: u64, hash: u64, max_count:
     let rem = remainder(shape, hash);
     let spot = find_spot(buf, shape, x, rem);
     if max_count <= spot.copies {
-        return Insertion::Enough(max_count);
+        return Ok(Insertion::Enough(max_count));
     }
     if shape.capacity() <= len {
-        return Insertion::Refused(7);
+        return Err(Refusal::NoRoom);
     }
-    let Found::At(e) = first_free(buf, shape, x) else {
-        return Insertion::Refused(6);
+    let Some(e) = first_free(buf, shape, x) else {
+        return Err(Refusal::NotSound);
     };
     if e < spot.slot {
-        return Insertion::Refused(6);
+        return Err(Refusal::NotSound);
     }
     write_in(buf, shape, x, rem, spot, e);
-    Insertion::Added(spot.copies)
+    Ok(Insertion::Added(spot.copies))
 }

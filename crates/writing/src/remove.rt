@@ -5,24 +5,17 @@ ghost use Rattle.theory.specs.number.Bytes.{le};
 ghost use Rattle.theory.specs.carry.CarryMore.{upto};
 ghost use Rattle.theory.specs.writing.Removing.{TookOut};
 ghost use Rattle.layout.specs.Whole.{Whole, views_in};
-ghost use Rattle.writing.specs.CopyOut.{LastEqualAs, LastSeen, GoingFor};
+ghost use Rattle.writing.specs.CopyOut.{LastSeen, GoingFor};
 ghost use Rattle.writing.specs.Shifted.{ShiftedFrom, Renews};
 ghost use Rattle.writing.specs.Remove.{WroteOut, RemovesCore};
 
 use crate::shift;
 use bits::compare::{lesser, over};
-use bits::select::Found;
 use filter::lookup::{quotient, remainder};
 use filter::runs::{next_carry, offset, past_run, run_start, unrolled};
+use layout::refusal::Refusal;
 use layout::shape::Shape;
 use layout::slot;
-
-// What a scan of a run finds: the last equal place, from 0, and how many places the run has; or none equal.
-#[derive(Clone, Copy)]
-pub enum LastEqual {
-    At(u64, u64),
-    Nothing,
-}
 
 // The copy that goes: its slot and that of the runend bit that goes with it, not taken round the end, and what the occupied bit becomes.
 #[derive(Clone, Copy)]
@@ -32,49 +25,23 @@ pub struct GoingCopy {
     pub bit: u64,
 }
 
-// Which copy a remove takes: the last equal one, or none.
-#[derive(Clone, Copy)]
-pub enum Going {
-    Copy(GoingCopy),
-    NoCopy,
-}
-
-// What the core of a remove says: one copy fewer, no change, or not the image.
-#[derive(Clone, Copy)]
-pub enum Removal {
-    Gone,
-    Absent,
-    Damaged,
-}
-
-// The answer of a scan of `size` places: `last` is one more than the last equal one, or 0.
-fn as_last_equal(last: u64, size: u64) -> LastEqual
-    ensures { LastEqualAs last size result }
-{
-    if last == 0 {
-        return LastEqual::Nothing;
-    }
-    LastEqual::At(last - 1, size)
-}
-
-// The last remainder equal to `rem` in the run that starts at slot `at`: the loop is left at the run's end with the last place that was equal.
-// Kept: the project's rules want the scans over a run's slots as loops left by break.
-fn last_equal(buf: &[u8], shape: Shape, at: u64, rem: u64) -> LastEqual
+// The last remainder equal to `rem` in the run that starts at slot `at`: its place, from 0, and how many places the run has; or none equal.
+fn last_equal(buf: &[u8], shape: Shape, at: u64, rem: u64) -> Option<(u64, u64)>
     requires { (Whole shape (length buf.now)) × (at < slots shape.qbits) }
     ensures { LastSeen (slots shape.qbits) (views_in shape buf.now) at rem result }
 {
     let slots = shape.slots();
     let mut k = 0;
-    // One more than the last equal place, or 0.
-    let mut last = 0;
+    let mut last = None;
+    // Kept: a scan of a run's slots is a loop left by break.
     loop {
         let s = (at + k) % slots;
-        k += 1;
         if slot::get_remainder(buf, shape, s) == rem {
-            last = k;
+            last = Some(k);
         }
+        k += 1;
         if slot::is_runend(buf, shape, s) == 1 || k == slots {
-            break as_last_equal(last, k);
+            break Some((last?, k));
         }
     }
 }
@@ -87,19 +54,20 @@ fn bit_place(place: u64, size: u64) -> u64
 }
 
 // Which copy goes: the last equal one of the run, or none.
-fn find_copy(buf: &[u8], shape: Shape, x: u64, rem: u64) -> Going
+fn find_copy(buf: &[u8], shape: Shape, x: u64, rem: u64) -> Option<GoingCopy>
     requires { (Whole shape (length buf.now)) × (x < slots shape.qbits) }
     ensures { GoingFor shape buf.now x rem result }
 {
     if slot::is_occupied(buf, shape, x) == 0 {
-        return Going::NoCopy;
+        return None;
     }
     let at = run_start(buf, shape, x);
-    let LastEqual::At(place, size) = last_equal(buf, shape, at, rem) else {
-        return Going::NoCopy;
+    // Kept: a miss of a scan is taken apart by let .. else and left at once.
+    let Some((place, size)) = last_equal(buf, shape, at, rem) else {
+        return None;
     };
     let first = unrolled(at, x, shape.slots());
-    Going::Copy(GoingCopy {
+    Some(GoingCopy {
         slot: first + place,
         bit_slot: first + bit_place(place, size),
         bit: lesser(1, size - 1),
@@ -107,23 +75,21 @@ fn find_copy(buf: &[u8], shape: Shape, x: u64, rem: u64) -> Going
 }
 
 // The last slot that is shifted from slot x on, not taken round the end: from each slot on to the last that its run fills.
-// Kept: the slots are not visited one by one, each turn goes on behind what the run fills, so no range counts them.
-fn last_shifted(buf: &[u8], shape: Shape, x: u64) -> Found
+fn last_shifted(buf: &[u8], shape: Shape, x: u64) -> Option<u64>
     requires { (Whole shape (length buf.now)) × (x < slots shape.qbits) }
     ensures { ShiftedFrom (slots shape.qbits) (views_in shape buf.now) x result }
 {
     let slots = shape.slots();
     let mut s = x;
+    // Kept: it does not count, it jumps from run to run.
     while s < x + slots {
-        let Found::At(gap) = past_run(buf, shape, s) else {
-            return Found::Nothing;
-        };
+        let gap = past_run(buf, shape, s)?;
         if gap == 1 {
-            return Found::At(s);
+            return Some(s);
         }
         s += gap - 1;
     }
-    Found::Nothing
+    None
 }
 
 // The carry o before slot `first`, less one if the slot e that is cleared lies there or behind.
@@ -153,27 +119,25 @@ fn take(buf: &mut [u8], shape: Shape, x: u64, copy: GoingCopy, e: u64)
 }
 
 // The offsets of the k blocks behind block a, told anew a block at a time from the carry o before block a: a stored 255 does not say whether it falls.
-fn renew_offsets(buf: &mut [u8], shape: Shape, a: u64, k: u64, o: u64) -> Removal
+fn renew_offsets(buf: &mut [u8], shape: Shape, a: u64, k: u64, o: u64) -> Result<(), Refusal>
     requires { (Whole shape (length buf.old)) × (a < 2 ^ 60) × (k < 2 ^ 60) × (o ≤ 2 ^ 60) }
     ensures { Renews shape.rbits (slots shape.qbits) (blocks shape.qbits) a k o (le buf.old) result (le buf.new) }
 {
     let blocks = shape.blocks();
-    let mut j = 0;
     let mut carry = o;
-    while j < k {
-        let Found::At(next) = next_carry(buf, shape, (a + j) % blocks, carry) else {
-            return Removal::Damaged;
+    for j in 0..k {
+        let Some(next) = next_carry(buf, shape, (a + j) % blocks, carry) else {
+            return Err(Refusal::NotSound);
         };
         slot::set_offset_byte(buf, shape, (a + j + 1) % blocks, lesser(next, 255));
         carry = next;
-        j += 1;
     }
-    Removal::Gone
+    Ok(())
 }
 
 // One copy fewer, written: the carry before the block of x is told while its byte still tells it, the cells are moved, and the offsets behind told anew from it.
 #[tactic(auto, using(theory::specs::images::Sizes::slot_block))]
-fn write_out(buf: &mut [u8], shape: Shape, x: u64, copy: GoingCopy, e: u64) -> Removal
+fn write_out(buf: &mut [u8], shape: Shape, x: u64, copy: GoingCopy, e: u64) -> Result<(), Refusal>
     requires { (Whole shape (length buf.old)) × (x < slots shape.qbits) × (copy.bit < 2) × (x ≤ copy.bit_slot) × (copy.bit_slot ≤ copy.slot) × (copy.slot ≤ e) × (e < x + slots shape.qbits) }
     ensures { WroteOut shape.rbits (slots shape.qbits) (blocks shape.qbits) x copy e (le buf.old) result (le buf.new) }
 {
@@ -183,21 +147,22 @@ fn write_out(buf: &mut [u8], shape: Shape, x: u64, copy: GoingCopy, e: u64) -> R
     renew_offsets(buf, shape, b, e / 64 - b, o)
 }
 
-// The rule of remove: one copy fewer of what is held; of what is not, nothing.
-pub fn remove_core(buf: &mut [u8], shape: Shape, hash: u64) -> Removal
+// The rule of remove: one copy fewer of what is held, true; of what is not, nothing, false.
+pub fn remove_core(buf: &mut [u8], shape: Shape, hash: u64) -> Result<bool, Refusal>
     requires { Whole shape (length buf.old) }
     ensures { RemovesCore shape hash buf.old result buf.new }
 {
     let x = quotient(shape, hash);
     let rem = remainder(shape, hash);
-    let Going::Copy(copy) = find_copy(buf, shape, x, rem) else {
-        return Removal::Absent;
+    let Some(copy) = find_copy(buf, shape, x, rem) else {
+        return Ok(false);
     };
-    let Found::At(e) = last_shifted(buf, shape, x) else {
-        return Removal::Damaged;
+    let Some(e) = last_shifted(buf, shape, x) else {
+        return Err(Refusal::NotSound);
     };
     if e < copy.slot {
-        return Removal::Damaged;
+        return Err(Refusal::NotSound);
     }
-    write_out(buf, shape, x, copy, e)
+    write_out(buf, shape, x, copy, e)?;
+    Ok(true)
 }

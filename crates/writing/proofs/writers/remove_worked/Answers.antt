@@ -1,31 +1,21 @@
 -- `writing::writers::remove_worked`: the core's answer with the record afterwards (specs/Writing). Assumes nothing.
-use mathlib.Core.Path.{subst, sym, ap, ◌∙◌}
-use native.Mathlib.Omega.{arith}
-use Rattle.layout.specs.declared.numbers.Numbers.{Numbers}
-use Rattle.writing.specs.declared.remove.Removal.{Removal}
-use Rattle.writing.specs.declared.writers.Removed.TheVariants.{Gone}
-use Rattle.layout.specs.Records.{with_len}
+use Rattle.std.proofs.Common.{ℕ, Fits, w8, slice_index_or, rules, arith}
+use Rattle.layout.specs.Refusals.{handed_on}
 use Rattle.writing.specs.Writing.{RemoveWorked, removed_from, remove_worked}
 use Rattle.writing.proofs.writers.remove_worked.Goals as goal
-use Rattle.writing.proofs.writers.remove_worked.Goals.{After-slice_known-2-1}
+use Rattle.writing.proofs.writers.remove_worked.Goals.{After-remove_core}
 
--- what is promised if the core answers a
-abbrev Worked : After-slice_known-2-1 → Removal → Type 0
-Worked c a = RemoveWorked c.args.n c.args.hash c.args.buf.now (removed_from c.args.n a) c.remove_core-done.new.buf
-
-worked : (c : After-slice_known-2-1) → Worked c c.remove_core-done.result
-worked c =
+worked : (c : After-remove_core) → ((i : ℕ) → Fits w8 (slice_index_or c.remove_core.new.buf i 0)) → RemoveWorked c.args.n c.args.hash c.args.buf.now (removed_from c.args.n c.remove_core.result) c.remove_core.new.buf
+worked c after =
     let a = c.args in
-    remove_worked a.n a.hash a.buf.now _ _ c.requires (λ i. omega (arith, c.slice_known-1.given i)) (λ i. omega (arith, c.slice_known-2-1.given i)) c.remove_core-done.auto.buf (rw c.shape.ensures at c.remove_core-done.ensures)
+    remove_worked a.n a.hash a.buf.now _ _ c.requires (λ i. search rules) (λ i. omega (arith, after i)) c.remove_core.auto.buf (rw c.shape.ensures at c.remove_core.ensures)
 
-pub returns-in-Gone : goal.returns-in-Gone
-returns-in-Gone c =
-    let e = c.with_len.ensures ∙ ap (with_len c.args.n) c.over.ensures in
-    subst (λ (z : Numbers). RemoveWorked c.args.n c.args.hash c.args.buf.now (Gone z) c.remove_core-done.new.buf) (sym e)
-    (subst (Worked (goal.at.returns-in-Gone c).After-slice_known-2-1) c.in-Gone.is (worked (goal.at.returns-in-Gone c).After-slice_known-2-1))
+pub returns-in_err-remove_core : goal.returns-in_err-remove_core
+returns-in_err-remove_core c =
+    rw (handed_on _ c.from_residual.ensures.1) (rw c.in_err-remove_core.was at (worked (goal.at.returns-in_err-remove_core c).After-remove_core c.type_inv.buf))
 
-pub returns-in-Absent : goal.returns-in-Absent
-returns-in-Absent c = subst (Worked (goal.at.returns-in-Absent c).After-slice_known-2-1) c.in-Absent.is (worked (goal.at.returns-in-Absent c).After-slice_known-2-1)
+pub returns-then-not-branch : goal.returns-then-not-branch
+returns-then-not-branch c = rw (c.in_ok-remove_core.was, c.if-not-branch.true) at (worked (goal.at.returns-then-not-branch c).After-remove_core c.type_inv.buf)
 
-pub returns-in-Damaged : goal.returns-in-Damaged
-returns-in-Damaged c = subst (Worked (goal.at.returns-in-Damaged c).After-slice_known-2-1) c.in-Damaged.is (worked (goal.at.returns-in-Damaged c).After-slice_known-2-1)
+pub returns : goal.returns
+returns c = rw (c.with_len.ensures, c.over.ensures) (rw (c.in_ok-remove_core.was, c.if-not-branch.false) at (worked (goal.at.returns c).After-remove_core c.type_inv.buf))
