@@ -26,6 +26,7 @@ pub struct GoingCopy {
 }
 
 // The last remainder equal to `rem` in the run that starts at slot `at`: its place, from 0, and how many places the run has; or none equal.
+#[tactic(auto, using(crate::specs::CopyOut::looking_none))]
 fn last_equal(buf: &[u8], shape: Shape, at: u64, rem: u64) -> Option<(u64, u64)>
     requires { (Whole shape (length buf.now)) × (at < slots shape.qbits) }
     ensures { LastSeen (slots shape.qbits) (views_in shape buf.now) at rem result }
@@ -75,6 +76,7 @@ fn find_copy(buf: &[u8], shape: Shape, x: u64, rem: u64) -> Option<GoingCopy>
 }
 
 // The last slot that is shifted from slot x on, not taken round the end: from each slot on to the last that its run fills.
+#[tactic(auto, using(crate::specs::Shifted::moving_none, crate::specs::Shifted::moving_missed, crate::specs::Shifted::moving_round))]
 fn last_shifted(buf: &[u8], shape: Shape, x: u64) -> Option<u64>
     requires { (Whole shape (length buf.now)) × (x < slots shape.qbits) }
     ensures { ShiftedFrom (slots shape.qbits) (views_in shape buf.now) x result }
@@ -119,6 +121,7 @@ fn take(buf: &mut [u8], shape: Shape, x: u64, copy: GoingCopy, e: u64)
 }
 
 // The offsets of the k blocks behind block a, told anew a block at a time from the carry o before block a: a stored 255 does not say whether it falls.
+#[tactic(auto, using(crate::specs::Shifted::renewing_none, crate::specs::Shifted::renews_all))]
 fn renew_offsets(buf: &mut [u8], shape: Shape, a: u64, k: u64, o: u64) -> Result<(), Refusal>
     requires { (Whole shape (length buf.old)) × (a < 2 ^ 60) × (k < 2 ^ 60) × (o ≤ 2 ^ 60) }
     ensures { Renews shape.rbits (slots shape.qbits) (blocks shape.qbits) a k o (le buf.old) result (le buf.new) }

@@ -1,5 +1,5 @@
 -- `writing::insert::scan`: the invariant is that k places are passed, none larger, and how many of them are equal (specs/CopyIn). Assumes nothing.
-use Prim.Native.Nat.{◌-◌, ◌<◌}
+use Rattle.std.specs.Prelude.{◌-◌, ◌<◌}
 use Rattle.theory.specs.Shape.{slots as slots-of}
 use Rattle.layout.specs.Whole.{views_in}
 use Rattle.writing.specs.CopyIn.{Scanning}

@@ -1,5 +1,5 @@
 -- `writing::remove::last_equal`: the invariant is that k places are passed, and which of them is the last equal one (specs/CopyOut). Assumes nothing.
-use Prim.Native.Nat.{◌-◌, ◌<◌}
+use Rattle.std.specs.Prelude.{◌-◌, ◌<◌}
 use Rattle.theory.specs.Shape.{slots as slots-of}
 use Rattle.layout.specs.Whole.{views_in}
 use Rattle.writing.specs.CopyOut.{Looking}

@@ -1,5 +1,5 @@
 -- `writing::remove::last_shifted`: the invariant is that behind all slots passed something is carried (specs/Shifted). Assumes nothing.
-use Prim.Native.Nat.{◌+◌, ◌-◌, ◌^◌, ◌≤◌, ◌<◌}
+use Rattle.std.specs.Prelude.{◌+◌, ◌-◌, ◌^◌, ◌≤◌, ◌<◌}
 use Rattle.theory.specs.Shape.{slots as slots-of}
 use Rattle.layout.specs.Whole.{views_in}
 use Rattle.writing.specs.Shifted.{Moving}
