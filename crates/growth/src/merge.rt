@@ -40,14 +40,12 @@ fn joined_qbits(first: u8, last: u8, wanted: u64) -> u8
     requires { (6 ≤ first) × (first ≤ last) × (last ≤ 59) }
     ensures { (result ≡ width_from (suc (last - first)) first wanted) × (first ≤ result) }
 {
-    let mut qbits = first;
-    while qbits <= last {
+    for qbits in first..=last {
         if wanted <= capacity_of(qbits) {
             return qbits;
         }
-        qbits += 1;
     }
-    qbits
+    last + 1
 }
 
 // The largest qbits that the result may have.
@@ -109,18 +107,6 @@ fn merge_sorted(
     Rebuilt::Filter(n.with_shape(shape, len))
 }
 
-// The destination gets what the buffer has.
-fn copy(buf: &[u8], dest: &mut [u8])
-    requires { length dest.old ≡ length buf.now }
-    ensures { dest.new ≡ buf.now }
-{
-    let mut i = 0;
-    while i < buf.len() {
-        dest[i] = buf[i];
-        i += 1;
-    }
-}
-
 // Other wider: its fingerprints, cut to self's width, are added to self's; without duplicates only absent ones, once each. Number 7, then 12.
 fn merge_wider(
     buf: &[u8],
@@ -142,7 +128,7 @@ fn merge_wider(
     if dest.len() != buf.len() {
         return Rebuilt::Refused(12);
     }
-    copy(buf, dest);
+    dest.copy_from_slice(buf);
     let most = max_count_of(keep);
     let len = take_in(other, other_shape, m.len, dest, shape, n.len, most);
     Rebuilt::Filter(n.with_len(len))
