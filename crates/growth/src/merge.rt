@@ -7,6 +7,7 @@ ghost use Rattle.layout.specs.Whole.{Whole};
 ghost use Rattle.growth.specs.Merging.{most_of, Wants, Joins, MergesEqual, MergesWider, MergesPair, Merges};
 
 use crate::rebuild::{Rebuilt, empty_out};
+use crate::source::Source;
 use crate::take::take_in;
 use crate::union::union_len;
 use crate::wider::wider_due;
@@ -31,7 +32,7 @@ fn wanted_len(buf: &[u8], n: Numbers, other: &[u8], m: Numbers, keep: u64) -> u6
     if keep != 0 {
         return n.len + m.len;
     }
-    let either = union_len(buf, n.shape(), n.len, other, m.shape(), m.len);
+    let either = union_len(Source::new(buf, n), Source::new(other, m));
     larger(either, larger(n.len, m.len))
 }
 
@@ -73,8 +74,8 @@ fn join(
     ensures { Joins n buf.now m other.now keep shape dest.old result dest.new }
 {
     let most = max_count_of(keep);
-    let own = take_in(buf, n.shape(), n.len, dest, shape, 0, most);
-    take_in(other, m.shape(), m.len, dest, shape, own, most)
+    let own = take_in(Source::new(buf, n), dest, shape, 0, most);
+    take_in(Source::new(other, m), dest, shape, own, most)
 }
 
 // As many bits of fingerprint on both sides: copies are added up, or, without duplicates, one of each is kept. Number 7, then 12.
@@ -119,9 +120,8 @@ fn merge_wider(
     requires { (lowest_due n buf.now ≡ 0) × (lowest_due m other.now ≡ 0) }
     ensures { MergesWider n buf.now m other.now keep dest.old result dest.new }
 {
-    let shape = n.shape();
-    let other_shape = m.shape();
-    let due = wider_due(buf, shape, n.len, other, other_shape, m.len, keep);
+    let added = Source::new(other, m);
+    let due = wider_due(Source::new(buf, n), added, keep);
     if 0 < due {
         return Rebuilt::Refused(due);
     }
@@ -130,7 +130,7 @@ fn merge_wider(
     }
     dest.copy_from_slice(buf);
     let most = max_count_of(keep);
-    let len = take_in(other, other_shape, m.len, dest, shape, n.len, most);
+    let len = take_in(added, dest, n.shape(), n.len, most);
     Rebuilt::Filter(n.with_len(len))
 }
 

@@ -5,6 +5,7 @@ ghost use Rattle.theory.specs.Refusal.{max_due};
 ghost use Rattle.layout.specs.Records.{lowest_due};
 ghost use Rattle.growth.specs.Rebuilding.{Empties, CanHold, RebuildsInto, Grows, GrowWorked};
 
+use crate::source::Source;
 use crate::take::take_in;
 use layout::check::{Verdict, check};
 use layout::fresh::{Made, fresh};
@@ -39,7 +40,7 @@ pub fn rebuild_into(buf: &[u8], n: Numbers, shape: Shape, dest: &mut [u8]) -> Re
     if 0 < due {
         return Rebuilt::Refused(due);
     }
-    let len = take_in(buf, n.shape(), n.len, dest, shape, 0, u64::MAX);
+    let len = take_in(Source::new(buf, n), dest, shape, 0, u64::MAX);
     Rebuilt::Filter(n.with_shape(shape, len))
 }
 

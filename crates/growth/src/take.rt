@@ -3,6 +3,7 @@ ghost use Rattle.std.specs.Prelude.{◌+◌, ◌^◌, ◌<◌, length};
 ghost use Rattle.layout.specs.Whole.{Whole};
 ghost use Rattle.growth.specs.Take.{Puts, PutsStep, TakesIn};
 
+use crate::source::Source;
 use filter::listing::{Step, first_place, step_core};
 use layout::shape::Shape;
 use writing::insert::{Insertion, insert_core};
@@ -33,26 +34,16 @@ fn put_step(dest: &mut [u8], shape: Shape, len: u64, step: Step, max_count: u64)
 }
 
 // All fingerprints of one list are inserted into the other, which held len; the answer is how many it holds then.
-pub fn take_in(
-    buf: &[u8],
-    shape: Shape,
-    count: u64,
-    dest: &mut [u8],
-    dest_shape: Shape,
-    len: u64,
-    max_count: u64,
-) -> u64
-    requires { (Whole shape (length buf.now)) × (Whole dest_shape (length dest.old)) × (len + count < 2 ^ 64) }
-    ensures { TakesIn shape buf.now count dest_shape dest.old len max_count result dest.new }
+pub fn take_in(list: Source, dest: &mut [u8], shape: Shape, len: u64, max_count: u64) -> u64
+    requires { (Whole shape (length dest.old)) × (len + list.len < 2 ^ 64) }
+    ensures { TakesIn list.entry.shape list.entry.buf.now list.entry.len shape dest.old len max_count result dest.new }
 {
-    let mut place = first_place(buf, shape, count);
+    let mut place = first_place(list.buf, list.shape, list.len);
     let mut held = len;
-    let mut left = count;
-    while 0 < left {
-        left -= 1;
-        let stepped = step_core(buf, shape, place);
+    for _ in 0..list.len {
+        let stepped = step_core(list.buf, list.shape, place);
         let step = stepped.step;
-        held = put_step(dest, dest_shape, held, step, max_count);
+        held = put_step(dest, shape, held, step, max_count);
         place = stepped.place;
     }
     held
