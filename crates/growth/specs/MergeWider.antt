@@ -13,21 +13,23 @@ use Rattle.theory.specs.list.MergeLength.{none_few}
 use Rattle.layout.specs.declared.numbers.Numbers.{Numbers}
 use Rattle.filter.specs.Lookup.{Shows}
 use Rattle.growth.specs.declared.rebuild.Rebuilt.TheVariants.{Filter, Refused}
+use Rattle.growth.specs.declared.source.Source.{Source}
+use Rattle.growth.specs.Reading.{Reads, reads_shows}
 use Rattle.growth.specs.Take.{SameTail, TakesIn}
 use Rattle.growth.specs.WiderDue.{WiderDue}
 use Rattle.growth.specs.Rebuilding.{lands_image}
 use Rattle.layout.specs.Records.{shape_of, with_len, lowest_due, HoldsOf}
 use Rattle.layout.specs.Outcomes.{leaves_refused, leaves_done}
 use Rattle.growth.specs.Merging.{MergesWider, most_of}
-use Rattle.growth.specs.MergeLists.{shows_other, shows_self, takes_wider}
+use Rattle.growth.specs.MergeLists.{shows_self, takes_wider}
 
 module _ (n : Numbers) (s : List ℕ) (m : Numbers) (o : List ℕ) (e : lowest_due n s ≡ 0) (f : lowest_due m o ≡ 0) (keep k : ℕ)
-    (wd : WiderDue (shape_of n) s n.len (shape_of m) o m.len keep k) (d : List ℕ) where
+    (a b : Source) (ra : Reads n s a) (rb : Reads m o b) (wd : WiderDue a b keep k) (d : List ℕ) where
   abbrev all : List ℕ → List ℕ → List ℕ
   all la lb = taken keep n.qbits n.rbits la lb
 
   is_due : (la lb : List ℕ) → HoldsOf n s la → HoldsOf m o lb → k ≡ taken_due n.qbits la (all la lb)
-  is_due la lb x y = wd la lb (shows_self n s m o e f la x) (shows_other n s m o e f lb y) x.many y.many
+  is_due la lb x y = rw ra.shape at (wd la lb (reads_shows n s a ra e la x) (reads_shows m o b rb f lb y) (x.many ∙ sym ra.len) (y.many ∙ sym rb.len))
 
   pub wider_seven : 0 < k → MergesWider n s m o keep d (Refused k) d
   wider_seven h la lb x y =
@@ -47,15 +49,15 @@ module _ (n : Numbers) (s : List ℕ) (m : Numbers) (o : List ℕ) (e : lowest_d
     room : (la lb : List ℕ) → HoldsOf n s la → HoldsOf m o lb → length (all la lb) ≤ capacity n.qbits
     room la lb x y = none_few n.qbits la (all la lb) (sym (is_due la lb x y) ∙ none) (held_within n s la e x)
 
-    pub wider_built : length d ≡ length s → (a : ℕ) (t : List ℕ) → Bytes t → length t ≡ length d → TakesIn (shape_of m) o m.len (shape_of n) s n.len (most_of keep) a t
-        → MergesWider n s m o keep d (Filter (with_len n a)) t
-    wider_built same a t b size g la lb x y =
+    pub wider_built : length d ≡ length s → (len : ℕ) (t : List ℕ) → Bytes t → length t ≡ length d → TakesIn b.shape b.buf.now b.len (shape_of n) s n.len (most_of keep) len t
+        → MergesWider n s m o keep d (Filter (with_len n len)) t
+    wider_built same len t bytes size g la lb x y =
         let h = shape_of n in
         let na : length la < 2 ^ 60 = omega (arith, x.many, few _ _ _ _ _ e) in
         let nb : length lb < 2 ^ 60 = omega (arith, y.many, few _ _ _ _ _ f) in
         let is = takes_wider h keep la lb na nb in
-        let r = g.right la lb (shows_other n s m o e f lb y) (sym y.many) (shows_self n s m o e f la x) (sym x.many) (omega (arith, ap length is, room la lb x y)) in
+        let r = g.right la lb (reads_shows m o b rb f lb y) (rb.len ∙ sym y.many) (shows_self n s m o e f la x) (sym x.many) (omega (arith, ap length is, room la lb x y)) in
         let tail : SameTail h (image n.qbits n.rbits la) t = subst (λ (z : List ℕ). SameTail h z t) x.bytes g.tail in
         leaves_done _ (with_len n (length (all la lb))) _ (all la lb) d
-        (else_none (taken_due n.qbits la (all la lb)) _ (sym (is_due la lb x y) ∙ none) ∙ destination_none n.qbits n.rbits (length d) (same ∙ size_is)) (with_len n a) (ap (with_len n) (r.1 ∙ ap length is)) t
-        (lands_image h (clear_of n s e).widths.low la (all la lb) t b (size ∙ same ∙ size_is) tail (subst (Shows h t) is r.0))
+        (else_none (taken_due n.qbits la (all la lb)) _ (sym (is_due la lb x y) ∙ none) ∙ destination_none n.qbits n.rbits (length d) (same ∙ size_is)) (with_len n len) (ap (with_len n) (r.1 ∙ ap length is)) t
+        (lands_image h (clear_of n s e).widths.low la (all la lb) t bytes (size ∙ same ∙ size_is) tail (subst (Shows h t) is r.0))

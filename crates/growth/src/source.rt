@@ -1,7 +1,6 @@
 // A filter that is only read: a growth or a merge takes its list.
-ghost use Rattle.std.specs.Prelude.{◌≡◌, length};
+ghost use Rattle.std.specs.Prelude.{length};
 ghost use Rattle.layout.specs.Whole.{Whole};
-ghost use Rattle.layout.specs.Records.{shape_of, lowest_due};
 
 use layout::numbers::Numbers;
 use layout::shape::Shape;
@@ -16,10 +15,14 @@ pub struct Source<'a> {
 }
 
 impl<'a> Source<'a> {
+    ghost use Rattle.std.specs.Prelude.{◌≡◌};
+    ghost use Rattle.layout.specs.Records.{lowest_due};
+    ghost use Rattle.growth.specs.Reading.{Reads};
+
     // A filter that passed 1 to 5.
     pub fn new(buf: &'a [u8], n: Numbers) -> Source<'a>
         requires { lowest_due n buf.now ≡ 0 }
-        ensures { (result.buf.now ≡ buf.now) × (result.shape ≡ shape_of n) × (result.len ≡ n.len) }
+        ensures { Reads n buf.now result }
     {
         Source {
             buf,

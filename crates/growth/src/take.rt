@@ -40,7 +40,7 @@ pub fn take_in(list: Source, dest: &mut [u8], shape: Shape, len: u64, max_count:
 {
     let mut place = first_place(list.buf, list.shape, list.len);
     let mut held = len;
-    for _ in 0..list.len {
+    for _step in 0..list.len {
         let stepped = step_core(list.buf, list.shape, place);
         let step = stepped.step;
         held = put_step(dest, shape, held, step, max_count);
