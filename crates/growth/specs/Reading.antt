@@ -1,6 +1,5 @@
 -- What a source is that was made of a filter: its list is what the filter holds.
 use Rattle.std.specs.Prelude.{ℕ, ◌≡◌, List}
-use Rattle.std.proofs.Common.{sym, ◌∙◌}
 use Rattle.layout.specs.declared.numbers.Numbers.{Numbers}
 use Rattle.layout.specs.declared.shape.Shape.{Shape}
 use Rattle.layout.specs.Records.{shape_of, lowest_due, HoldsOf}

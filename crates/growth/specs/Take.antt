@@ -1,5 +1,5 @@
 -- What taking a list's fingerprints in comes to: each is inserted as by the rule of insert, cut to the width of the buffer that it goes to.
-use Prim.Native.Nat.{ℕ, suc, ◌+◌, ◌-◌, ◌≤◌, ◌<◌}
+use Prim.Native.Nat.{ℕ, suc, ◌+◌, ◌≤◌, ◌<◌}
 use Rattle.std.specs.Prelude.{◌≡◌, refl}
 use Rattle.std.proofs.Common.{sym, subst, ◌∙◌, arith, add-one, drop-cons}
 use Rattle.std.proofs.Math.Path.{ap}

@@ -2,7 +2,6 @@
 use Prim.Native.Nat.{◌+◌}
 use mathlib.Core.Path.{◌≡◌, sym, ◌∙◌}
 use native.Mathlib.Omega.{arith}
-use Rattle.theory.specs.Planning.{width_from}
 use Rattle.theory.specs.plan.Needed.{width_here, width_on, width_past}
 use Rattle.growth.proofs.merge.joined_qbits.Goals as goal
 use Rattle.growth.proofs.merge.joined_qbits.Goals.{else-loop-qbits-test, then-loop-qbits-test+else-wanted-capacity_of+else-qbits-last}

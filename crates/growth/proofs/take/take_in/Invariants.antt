@@ -1,6 +1,4 @@
 -- `growth::take::take_in`: the loop keeps `Takes`. Assumes nothing.
-use mathlib.Core.Path.{◌≡◌}
-use lib.ListN.{length}
 use Rattle.growth.specs.Take.{Takes}
 use Rattle.growth.proofs.take.take_in.Given as goal
 
