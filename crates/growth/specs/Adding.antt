@@ -13,8 +13,8 @@ use Rattle.theory.specs.list.Flat.{under_mono}
 use Rattle.theory.specs.list.UpTo.{cut_same}
 use Rattle.theory.specs.Joining.{added_once}
 use Rattle.layout.specs.declared.shape.Shape.{Shape}
-use Rattle.filter.specs.declared.lookup.Seen.{Seen}
-use Rattle.filter.specs.declared.lookup.Seen.TheVariants as seen
+use Rattle.filter.specs.declared.lookup.Lookup.{Lookup}
+use Rattle.filter.specs.declared.lookup.Lookup.TheVariants as lookup
 use Rattle.filter.specs.Lookup.{Shows, Seeks}
 use Rattle.growth.specs.declared.source.Source.{Source}
 
@@ -46,12 +46,12 @@ TellsNone true count = count ≡ 0
 TellsNone false count = 0 < count
 
 -- whether it is not held
-abbrev pub Lacks : Source → ℕ → Bool → Type 0
-Lacks a hash r = (l : List ℕ) → ShownBy a l → TellsNone r (copies (cut_of a.shape hash) l)
+pub record Lacks (a : Source) (hash : ℕ) (r : Bool) : Type 0 where
+  pub right : (l : List ℕ) → ShownBy a l → TellsNone r (copies (cut_of a.shape hash) l)
 
 -- whether none of the first k of b is cut to f
-abbrev pub Unmet : Source → Shape → ℕ → ℕ → Bool → Type 0
-Unmet b h k f r = (l : List ℕ) → ShownBy b l → b.len ≡ length l → k ≤ length l → TellsNone r (copies f (take k (cuts h l)))
+pub record Unmet (b : Source) (h : Shape) (k f : ℕ) (r : Bool) : Type 0 where
+  pub right : (l : List ℕ) → ShownBy b l → b.len ≡ length l → k ≤ length l → TellsNone r (copies f (take k (cuts h l)))
 
 -- f stands behind k others, the last of them `before`
 pub record Stands (l : List ℕ) (k before f : ℕ) : Type 0 where
@@ -60,10 +60,9 @@ pub record Stands (l : List ℕ) (k before f : ℕ) : Type 0 where
   pub last : 0 < k → before ≡ get_or l (k - 1) 0
 
 -- whether neither a nor one before it in b has its cut
-abbrev pub New : Source → Source → ℕ → ℕ → ℕ → Bool → Type 0
-New a b k before f r =
-    (la lb : List ℕ) → Held a la → ShownBy b lb → b.len ≡ length lb → Stands lb k before f
-    → TellsNone r (copies (cut_of a.shape f) la + copies (cut_of a.shape f) (take k (cuts a.shape lb)))
+pub record New (a b : Source) (k before f : ℕ) (r : Bool) : Type 0 where
+  pub right : (la lb : List ℕ) → Held a la → ShownBy b lb → b.len ≡ length lb → Stands lb k before f
+      → TellsNone r (copies (cut_of a.shape f) la + copies (cut_of a.shape f) (take k (cuts a.shape lb)))
 
 -- how many of b are added to a, and `enough` at most
 pub record Adds (a b : Source) (enough r : ℕ) : Type 0 where
@@ -71,16 +70,18 @@ pub record Adds (a b : Source) (enough r : ℕ) : Type 0 where
   pub right : (la lb : List ℕ) → Held a la → ShownBy b lb → b.len ≡ length lb → r ≡ min enough (length (added_once la (cuts a.shape lb)) - length la)
 
 -- ---- a lookup
-abbrev pub absent_of : Seen → Bool
-absent_of (seen.At k) = false
-absent_of (seen.Absent k) = true
+abbrev pub absent_of : Lookup → Bool
+absent_of (lookup.Held k) = false
+absent_of (lookup.Absent k) = true
 
-pub lacks_seen : (a : Source) (hash : ℕ) (z : Seen) → Seeks a.shape a.buf.now hash z → Lacks a hash (absent_of z)
-lacks_seen a hash z p l w =
-    let h = a.shape in
-    let f = cut_of h hash in
-    let same = copies_run (2 ^ h.rbits) (pow_pos h.rbits) f l in
-    rw (p l w) (choose_by (λ y. TellsNone (absent_of y) (copies f l)) (dec_le 1 (copies (f % 2 ^ h.rbits) (run (2 ^ h.rbits) l (f / 2 ^ h.rbits)))) (λ b. omega arith) (λ b. omega arith))
+pub lacks_seen : (a : Source) (hash : ℕ) (z : Lookup) → Seeks a.shape a.buf.now hash z → Lacks a hash (absent_of z)
+lacks_seen a hash z p = record {
+  right = λ l w.
+      let h = a.shape in
+      let f = cut_of h hash in
+      let same = copies_run (2 ^ h.rbits) (pow_pos h.rbits) f l in
+      rw (p l w) (choose_by (λ y. TellsNone (absent_of y) (copies f l)) (dec_le 1 (copies (f % 2 ^ h.rbits) (run (2 ^ h.rbits) l (f / 2 ^ h.rbits)))) (λ b. omega arith) (λ b. omega arith));
+}
 
 -- ---- new: not the one before, not held by a, and not met
 -- nothing is cut off a fingerprint that is no wider
@@ -99,30 +100,36 @@ module _ (a b : Source) (k before f : ℕ) where
   cut_at l j g within e = get_d_map _ l j within ∙ ap (cut_of a.shape) (sym e)
 
   pub new_repeat : 0 < k → f ≡ before → New a b k before f false
-  new_repeat some e la lb v w n t =
-      omega (arith, t.within, copies_taken c (cuts a.shape lb) (k - 1) k (omega arith) (omega (arith, t.within, length-map lb (cut_of a.shape))) (cut_at lb (k - 1) f (omega (arith, t.within)) (e ∙ t.last some)))
+  new_repeat some e = record {
+    right = λ la lb v w n t.
+        omega (arith, t.within, copies_taken c (cuts a.shape lb) (k - 1) k (omega arith) (omega (arith, t.within, length-map lb (cut_of a.shape))) (cut_at lb (k - 1) f (omega (arith, t.within)) (e ∙ t.last some)));
+  }
 
   pub new_held : 0 < a.len → Lacks a f false → New a b k before f false
-  new_held some lacks la lb v w n t = omega (arith, lacks la (v.some some))
+  new_held some lacks = record { right = λ la lb v w n t. omega (arith, lacks.right la (v.some some)) }
 
   -- a does not hold it
-  abbrev pub Free : Type 0
-  Free = (la : List ℕ) → Held a la → copies c la ≡ 0
+  pub record Free : Type 0 where
+    pub none : (la : List ℕ) → Held a la → copies c la ≡ 0
 
   pub free_none : a.len ≡ 0 → Free
-  free_none e la v = ap (copies c) (v.none e) ∙ copies_nil c
+  free_none e = record { none = λ la v. ap (copies c) (v.none e) ∙ copies_nil c }
 
   pub free_lacks : 0 < a.len → Lacks a f true → Free
-  free_lacks some lacks la v = lacks la (v.some some)
+  free_lacks some lacks = record { none = λ la v. lacks.right la (v.some some) }
 
   pub new_narrow : Free → (0 < k → f ≡ before → ⊥) → b.shape.qbits + b.shape.rbits ≤ a.shape.qbits + a.shape.rbits → New a b k before f true
-  new_narrow free ne few la lb v w n t =
-      let same : cuts a.shape lb ≡ lb = cuts_same a.shape b lb few w in
-      let here : get_or lb k 0 ≡ c = ap (λ (z : List ℕ). get_or z k 0) (sym same) ∙ cut_at lb k f t.within t.here in
-      let none = first_new lb k w.holding.ascending t.within (λ some e. ne some (t.here ∙ sym e ∙ sym (t.last some))) in
-      rw same (omega (arith, free la v, rw here at none))
+  new_narrow free ne few = record {
+    right = λ la lb v w n t.
+        let same : cuts a.shape lb ≡ lb = cuts_same a.shape b lb few w in
+        let here : get_or lb k 0 ≡ c = ap (λ (z : List ℕ). get_or z k 0) (sym same) ∙ cut_at lb k f t.within t.here in
+        let none = first_new lb k w.holding.ascending t.within (λ some e. ne some (t.here ∙ sym e ∙ sym (t.last some))) in
+        rw same (omega (arith, free.none la v, rw here at none));
+  }
 
   pub new_unmet : (g : ℕ) (r : Bool) → Free → g ≡ c → Unmet b a.shape k g r → New a b k before f r
-  new_unmet g r free e u la lb v w n t =
-      let none : copies c la + copies c (take k (cuts a.shape lb)) ≡ copies c (take k (cuts a.shape lb)) = omega (arith, free la v) in
-      rw none (rw e at (u lb w n (omega (arith, t.within))))
+  new_unmet g r free e u = record {
+    right = λ la lb v w n t.
+        let none : copies c la + copies c (take k (cuts a.shape lb)) ≡ copies c (take k (cuts a.shape lb)) = omega (arith, free.none la v) in
+        rw none (rw e at (u.right lb w n (omega (arith, t.within))));
+  }

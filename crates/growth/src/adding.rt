@@ -4,18 +4,17 @@ ghost use Rattle.theory.specs.Shape.{fingerprint, Widths};
 ghost use Rattle.growth.specs.Adding.{Lacks, Unmet, New, Adds};
 
 use crate::source::Source;
-use filter::listing::{Step, first_place, step_core};
-use filter::lookup::{Seen, find_hash, quotient, remainder};
+use filter::listing::{first_place, step_core};
+use filter::lookup::{Lookup, find_hash, quotient, remainder};
 use layout::shape::Shape;
 
 // Whether a does not hold the fingerprint of a hash.
 fn absent(a: Source, hash: u64) -> bool
     ensures { Lacks a.entry hash result }
 {
-    let seen = find_hash(a.buf, a.shape, hash);
-    match seen {
-        Seen::At(place) => false,
-        Seen::Absent(compared) => true,
+    match find_hash(a.buf, a.shape, hash) {
+        Lookup::Held(_) => false,
+        Lookup::Absent(_) => true,
     }
 }
 
@@ -28,6 +27,7 @@ fn cut(shape: Shape, hash: u64) -> u64
 }
 
 // Whether none of the first k fingerprints of b is cut to f. No memory is lent for those met, so b is listed anew.
+#[tactic(auto, using(crate::specs::Counting::unmet_other, crate::specs::Counting::unmet_hit, crate::specs::Counting::passing_on, crate::specs::Counting::unmet_end))]
 fn unmet(b: Source, shape: Shape, k: u64, f: u64) -> bool
     requires { Widths shape.qbits shape.rbits }
     ensures { Unmet b.entry shape k f result }
@@ -35,8 +35,7 @@ fn unmet(b: Source, shape: Shape, k: u64, f: u64) -> bool
     let mut place = first_place(b.buf, b.shape, b.len);
     for i in 0..k {
         let stepped = step_core(b.buf, b.shape, place);
-        let step = stepped.step;
-        let Step::Fingerprint(g) = step else {
+        let Ok(Some(g)) = stepped.step else {
             return false;
         };
         if cut(shape, g) == f {
@@ -49,6 +48,7 @@ fn unmet(b: Source, shape: Shape, k: u64, f: u64) -> bool
 
 // Whether f, which stands behind k others in b, the last of them `before`, is the first with its cut and a does not hold that.
 // At equal widths equal ones are neighbours; otherwise those before it are listed anew.
+#[tactic(auto, using(crate::specs::Adding::new_repeat, crate::specs::Adding::new_held, crate::specs::Adding::new_narrow, crate::specs::Adding::new_unmet, crate::specs::Adding::free_none, crate::specs::Adding::free_lacks))]
 fn is_new(a: Source, b: Source, k: u64, before: u64, f: u64) -> bool
     ensures { New a.entry b.entry k before f result }
 {
@@ -77,8 +77,7 @@ pub fn count_added(a: Source, b: Source, enough: u64) -> u64
             return count;
         }
         let stepped = step_core(b.buf, b.shape, place);
-        let step = stepped.step;
-        let Step::Fingerprint(f) = step else {
+        let Ok(Some(f)) = stepped.step else {
             return count;
         };
         if is_new(a, b, k, before, f) {

@@ -1,20 +1,20 @@
 // Two filters merged in a lent destination.
-ghost use Rattle.std.specs.Prelude.{◌≡◌, suc, ◌+◌, ◌-◌, ◌≤◌, length};
+ghost use Rattle.std.specs.Prelude.{◌≡◌, ◌+◌, ◌≤◌, length};
 ghost use Rattle.theory.specs.Joining.{limit};
-ghost use Rattle.theory.specs.Planning.{width_from};
 ghost use Rattle.layout.specs.Records.{lowest_due};
 ghost use Rattle.layout.specs.Whole.{Whole};
-ghost use Rattle.growth.specs.Merging.{most_of, Wants, Joins, MergesEqual, MergesWider, MergesPair, Merges};
+ghost use Rattle.growth.specs.Merging.{most_of, Wants, WidthUpTo, Joins, MergesEqual, MergesWider, MergesPair, Merges};
 
-use crate::rebuild::{Rebuilt, empty_out};
+use crate::rebuild::empty_out;
 use crate::source::Source;
 use crate::take::take_in;
 use crate::union::union_len;
 use crate::wider::wider_due;
 use bits::compare::larger;
-use layout::check::{Verdict, check_both};
+use layout::check::check_both;
 use layout::numbers::Numbers;
 use layout::planning::capacity_of;
+use layout::refusal::Refusal;
 use layout::shape::Shape;
 
 // The max_count that each insert of a merge gets.
@@ -36,17 +36,17 @@ fn wanted_len(buf: &[u8], n: Numbers, other: &[u8], m: Numbers, keep: u64) -> u6
     larger(either, larger(n.len, m.len))
 }
 
-// The smallest qbits from the first on that has the capacity, and one past the last if none has.
-fn joined_qbits(first: u8, last: u8, wanted: u64) -> u8
+// The smallest qbits from the first to the last that has the capacity, if one has.
+fn joined_qbits(first: u8, last: u8, wanted: u64) -> Option<u8>
     requires { (6 ≤ first) × (first ≤ last) × (last ≤ 59) }
-    ensures { (result ≡ width_from (suc (last - first)) first wanted) × (first ≤ result) }
+    ensures { WidthUpTo first last wanted result }
 {
     for qbits in first..=last {
         if wanted <= capacity_of(qbits) {
-            return qbits;
+            return Some(qbits);
         }
     }
-    last + 1
+    None
 }
 
 // The largest qbits that the result may have.
@@ -86,26 +86,19 @@ fn merge_sorted(
     m: Numbers,
     keep: u64,
     dest: &mut [u8],
-) -> Rebuilt
+) -> Result<Numbers, Refusal>
     requires { (lowest_due n buf.now ≡ 0) × (lowest_due m other.now ≡ 0) × (m.qbits + m.rbits ≡ n.qbits + n.rbits) }
     ensures { MergesEqual n buf.now m other.now keep dest.old result dest.new }
 {
     let wanted = wanted_len(buf, n, other, m, keep);
-    let last = limit_of(n);
-    let qbits = joined_qbits(n.qbits, last, wanted);
-    if last < qbits {
-        return Rebuilt::Refused(7);
-    }
+    let qbits = joined_qbits(n.qbits, limit_of(n), wanted).ok_or(Refusal::NoRoom)?;
     let shape = Shape {
         qbits,
         rbits: n.qbits + n.rbits - qbits,
     };
-    let due = empty_out(dest, shape, n.max_qbits);
-    if 0 < due {
-        return Rebuilt::Refused(due);
-    }
+    empty_out(dest, shape, n.max_qbits)?;
     let len = join(buf, n, other, m, keep, dest, shape);
-    Rebuilt::Filter(n.with_shape(shape, len))
+    Ok(n.with_shape(shape, len))
 }
 
 // Other wider: its fingerprints, cut to self's width, are added to self's; without duplicates only absent ones, once each. Number 7, then 12.
@@ -116,22 +109,19 @@ fn merge_wider(
     m: Numbers,
     keep: u64,
     dest: &mut [u8],
-) -> Rebuilt
+) -> Result<Numbers, Refusal>
     requires { (lowest_due n buf.now ≡ 0) × (lowest_due m other.now ≡ 0) }
     ensures { MergesWider n buf.now m other.now keep dest.old result dest.new }
 {
     let added = Source::new(other, m);
-    let due = wider_due(Source::new(buf, n), added, keep);
-    if 0 < due {
-        return Rebuilt::Refused(due);
-    }
+    wider_due(Source::new(buf, n), added, keep)?;
     if dest.len() != buf.len() {
-        return Rebuilt::Refused(12);
+        return Err(Refusal::DestinationLength);
     }
     dest.copy_from_slice(buf);
     let most = max_count_of(keep);
     let len = take_in(added, dest, n.shape(), n.len, most);
-    Rebuilt::Filter(n.with_len(len))
+    Ok(n.with_len(len))
 }
 
 // Number 19 if the families differ, then 8 if other's width is smaller; else the case that the widths tell.
@@ -142,7 +132,7 @@ fn merge_sound(
     m: Numbers,
     keep: u64,
     dest: &mut [u8],
-) -> Rebuilt
+) -> Result<Numbers, Refusal>
     requires { (lowest_due n buf.now ≡ 0) × (lowest_due m other.now ≡ 0) }
     ensures { MergesPair n buf.now m other.now keep dest.old result dest.new }
 {
@@ -151,10 +141,10 @@ fn merge_sound(
     let family = n.family;
     let other_family = m.family;
     if other_family != family {
-        return Rebuilt::Refused(19);
+        return Err(Refusal::TwoFamilies);
     }
     if other_width < width {
-        return Rebuilt::Refused(8);
+        return Err(Refusal::Narrower);
     }
     if other_width == width {
         return merge_sorted(buf, n, other, m, keep, dest);
@@ -170,12 +160,9 @@ pub fn merge(
     m: Numbers,
     keep_duplicates: u64,
     dest: &mut [u8],
-) -> Rebuilt
+) -> Result<Numbers, Refusal>
     ensures { Merges n buf.now m other.now keep_duplicates dest.old result dest.new }
 {
-    let verdict = check_both(buf, n, other, m);
-    if let Verdict::Refused(k) = verdict {
-        return Rebuilt::Refused(k);
-    }
+    check_both(buf, n, other, m)?;
     merge_sound(buf, n, other, m, keep_duplicates, dest)
 }

@@ -5,21 +5,22 @@ ghost use Rattle.growth.specs.WiderDue.{WiderDue};
 
 use crate::adding::count_added;
 use crate::source::Source;
+use layout::refusal::Refusal;
 
-// 7 if an added copy would pass capacity, else 0: nothing is counted where all of b fit, and no more than what passes.
-pub fn wider_due(a: Source, b: Source, keep: u64) -> u8
+// Number 7 if an added copy would pass capacity: nothing is counted where all of b fit, and no more than what passes.
+pub fn wider_due(a: Source, b: Source, keep: u64) -> Result<(), Refusal>
     requires { a.len ≤ capacity a.shape.qbits }
     ensures { WiderDue a.entry b.entry keep result }
 {
     let enough = a.shape.capacity() - a.len + 1;
     if b.len < enough {
-        return 0;
+        return Ok(());
     }
     if keep != 0 {
-        return 7;
+        return Err(Refusal::NoRoom);
     }
     if count_added(a, b, enough) < enough {
-        return 0;
+        return Ok(());
     }
-    7
+    Err(Refusal::NoRoom)
 }
