@@ -7,7 +7,8 @@ use Rattle.growth.proofs.merge.joined_qbits.Goals as goal
 use Rattle.growth.proofs.merge.joined_qbits.Goals.{else-loop-qbits-test, then-loop-qbits-test+else-wanted-capacity_of+else-qbits-last}
 
 pub returns-then-wanted-capacity_of : goal.returns-then-wanted-capacity_of
-returns-then-wanted-capacity_of c = (sym (width_here _ _ _ (omega (arith, c.capacity_of.ensures))) ∙ c.loop-qbits.invariant, c.loop-qbits.auto.qbits)
+returns-then-wanted-capacity_of c =
+    (sym (width_here _ _ _ (omega (arith, c.capacity_of.ensures))) ∙ c.loop-qbits.invariant, c.loop-qbits.auto.qbits, c.loop-qbits-test.true)
 
 pub loop-qbits-preserved : goal.loop-qbits-preserved
 loop-qbits-preserved c = sym (width_on c.args.last c.loop-qbits.qbits c.args.wanted (omega arith) (omega (arith, c.capacity_of.ensures, c.if-wanted-capacity_of.false))) ∙ c.loop-qbits.invariant
@@ -18,8 +19,8 @@ returns c =
     let i = c.loop-qbits.invariant in
     let past = width_past a.last (a.last + 1) a.wanted (omega arith) in
     elim c.loop-qbits-test.branch [
-      | else-loop-qbits-test w ↦ let e : c.loop-qbits.qbits ≡ a.last + 1 = omega arith in (sym past ∙ rw e at i, omega arith)
+      | else-loop-qbits-test w ↦ let e : c.loop-qbits.qbits ≡ a.last + 1 = omega arith in omega (arith, sym past ∙ rw e at i)
       | then-loop-qbits-test+else-wanted-capacity_of+else-qbits-last w ↦
           let e : c.loop-qbits.qbits ≡ a.last = omega arith in
-          (sym past ∙ rw e at (sym (width_on a.last c.loop-qbits.qbits a.wanted (omega arith) (omega (arith, w.capacity_of.ensures, w.if-wanted-capacity_of.false))) ∙ i), omega arith)
+          omega (arith, sym past ∙ rw e at (sym (width_on a.last c.loop-qbits.qbits a.wanted (omega arith) (omega (arith, w.capacity_of.ensures, w.if-wanted-capacity_of.false))) ∙ i))
     ]

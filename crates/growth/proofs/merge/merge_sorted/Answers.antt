@@ -53,4 +53,4 @@ returns c =
     let o = c.empty_out-due in
     let k = c.join-len in
     let z : o.result ≡ 0 = omega (arith, c.if-due-gt0.false) in
-    rw c.with_shape.ensures (equal_built a.n a.buf.now a.m a.other.now c.requires.0 c.requires.1 c.requires.2 a.keep _ c.wanted_len-wanted.ensures _ c.limit_of-last.ensures _ c.joined_qbits-qbits.ensures.0 c.joined_qbits-qbits.ensures.1 a.dest.now (omega (arith, c.if-last-qbits.false)) _ (rw z at o.ensures) _ _ (λ i. omega (arith, c.slice_known-3-1.given i)) (k.auto.dest ∙ o.auto.dest) k.ensures)
+    rw c.with_shape.ensures (equal_built a.n a.buf.now a.m a.other.now c.requires.0 c.requires.1 c.requires.2 a.keep _ c.wanted_len-wanted.ensures _ c.limit_of-last.ensures _ c.joined_qbits-qbits.ensures.0 c.joined_qbits-qbits.ensures.1 a.dest.now (omega (arith, c.if-last-qbits.false)) _ (rw z at o.ensures) _ _ (λ i. omega (arith, c.type_inv.dest i)) (k.auto.dest ∙ o.auto.dest) k.ensures)

@@ -4,23 +4,24 @@ use native.Mathlib.Omega.{arith}
 use lib.ListN.{length}
 use Rattle.layout.specs.Judging.{clear_whole, clear_within}
 use Rattle.theory.specs.plan.Limits.{few}
+use Rattle.layout.specs.Refusals.{handed_on}
 use Rattle.growth.specs.MergeWider.{wider_seven, wider_twelve, wider_built}
 use Rattle.growth.proofs.merge.merge_wider.Goals as goal
 
-pub wider_due-due-requires : goal.wider_due-due-requires
-wider_due-due-requires c =
+pub wider_due-requires : goal.wider_due-requires
+wider_due-requires c =
     let x = c.new.ensures in
     rw (x.shape, x.len) (clear_within c.args.n c.args.buf.now c.requires.0)
 
-pub returns-then-due-gt0 : goal.returns-then-due-gt0
-returns-then-due-gt0 c =
+pub returns-in_err-wider_due : goal.returns-in_err-wider_due
+returns-in_err-wider_due c =
     let a = c.args in
-    wider_seven a.n a.buf.now a.m a.other.now c.requires.0 c.requires.1 a.keep _ _ _ c.new.ensures c.new-added.ensures c.wider_due-due.ensures a.dest.now c.if-due-gt0.true
+    rw (handed_on _ c.from_residual.ensures.1) (wider_seven a.n a.buf.now a.m a.other.now c.requires.0 c.requires.1 a.keep _ _ c.new.ensures c.new-added.ensures a.dest.now _ c.in_err-wider_due.ensures)
 
 pub returns-then-dest-buf : goal.returns-then-dest-buf
 returns-then-dest-buf c =
     let a = c.args in
-    wider_twelve a.n a.buf.now a.m a.other.now c.requires.0 c.requires.1 a.keep _ _ _ c.new.ensures c.new-added.ensures c.wider_due-due.ensures a.dest.now (omega (arith, c.if-due-gt0.false)) c.if-dest-buf.true
+    wider_twelve a.n a.buf.now a.m a.other.now c.requires.0 c.requires.1 a.keep _ _ c.new.ensures c.new-added.ensures a.dest.now _ c.in_ok-wider_due.ensures c.if-dest-buf.true
 
 pub take_in-len-requires : goal.take_in-len-requires
 take_in-len-requires c =
@@ -35,4 +36,4 @@ returns c =
     let y = c.copy_from_slice in
     let same : length a.dest.now ≡ length a.buf.now = omega (arith, c.if-dest-buf.false) in
     rw c.with_len.ensures
-    (wider_built a.n a.buf.now a.m a.other.now c.requires.0 c.requires.1 a.keep _ _ _ c.new.ensures c.new-added.ensures c.wider_due-due.ensures a.dest.now (omega (arith, c.if-due-gt0.false)) same _ _ (λ i. omega (arith, c.slice_known-3-1.given i)) (k.auto.dest ∙ y.ensures.len) (rw (y.ensures.after, c.max_count_of-most.ensures, c.shape.ensures) at k.ensures))
+    (wider_built a.n a.buf.now a.m a.other.now c.requires.0 c.requires.1 a.keep _ _ c.new.ensures c.new-added.ensures a.dest.now _ c.in_ok-wider_due.ensures same _ _ (λ i. omega (arith, c.type_inv.dest i)) (k.auto.dest ∙ y.ensures.len) (rw (y.ensures.after, c.max_count_of-most.ensures, c.shape.ensures) at k.ensures))

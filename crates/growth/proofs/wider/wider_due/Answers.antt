@@ -3,13 +3,9 @@ use Prim.Native.Nat.{suc, ◌+◌, ◌-◌}
 use mathlib.Core.Path.{◌≡◌}
 use native.Mathlib.Omega.{arith}
 use Rattle.theory.specs.Shape.{capacity}
-use Rattle.theory.specs.images.Sizes.{slots_high}
 use Rattle.growth.specs.WiderDue.{wider_few, wider_all, wider_room, wider_passed}
 use Rattle.growth.proofs.wider.wider_due.Goals as goal
 use Rattle.growth.proofs.wider.wider_due.Goals.{After-capacity}
-
-pub overflow_add-enough : goal.overflow_add-enough
-overflow_add-enough c = omega (arith, slots_high _ c.args.a.whole.widths.high, c.capacity.ensures.1)
 
 -- the least number of added copies that passes capacity
 least : (c : After-capacity) → c.args.a.len + (c.capacity.result - c.args.a.len + 1) ≡ suc (capacity c.args.a.shape.qbits)
