@@ -1,6 +1,6 @@
 -- An insert with max_count 0 looks and does not add: where it is not refused it answers 0 and gives the record that it was given, at capacity too, and in either case every byte stays,
 -- those of a spare as well. A checked one is refused 1 to 6 and no other number, a quick one 1 to 5 and no other: it answers 0 on a damaged buffer too. Assumes nothing.
-use Rattle.std.specs.Prelude.{Result, ℕ, ◌×◌, ◌<◌, ◌≡◌, refl, List, length}
+use Rattle.std.specs.Prelude.{Result, ℕ, ◌<◌, ◌≡◌, refl, List, length}
 use Rattle.std.proofs.Common.{sym, ap, ◌∙◌, arith}
 use Rattle.theory.specs.Answer.{gives, refuses}
 use Rattle.theory.specs.Shape.{capacity}

@@ -1,5 +1,5 @@
 -- The promises of insert with a spare (docs/RULES.md, "Insert").
-use Rattle.std.specs.Prelude.{Result, Ok, Err, ◌×◌, ℕ, ◌+◌, ◌-◌, ◌<◌, ◌≡◌, refl, ◌⊎◌, ◌≢◌, List, length}
+use Rattle.std.specs.Prelude.{Result, Ok, Err, ℕ, ◌+◌, ◌-◌, ◌<◌, ◌≡◌, refl, ◌⊎◌, ◌≢◌, List, length}
 use Rattle.std.proofs.Common.{sym, ap, subst, ◌∙◌, inl, inr, arith, eq-zero-or-pos}
 use Rattle.std.proofs.Math.Decide.{ℕ_discrete}
 use Rattle.theory.specs.Answer.{Answer, gives, refuses, number as answered}
@@ -122,7 +122,7 @@ module _ (n : Numbers) (hash most : ℕ) (s d : List ℕ) where
     right = λ l e h c.
         let p = g.sound e l h in
         record {
-          refused = p.refused;
+          refused = λ z. (ap refuses (ap answered (p.refused z).0), (p.refused z).1);
           done = λ z. let x = (p.done z).0 in let y : ◌≡◌ {A = ℕ} 0 1 = cc in absurd (omega arith);
         };
     whole = λ _. kept k t g;
@@ -201,7 +201,7 @@ module _ (n : Numbers) (hash most : ℕ) (s d : List ℕ) (a : Result Placed Ref
   led_refused (Ok p) j h w x = let v : ◌≡◌ {A = ℕ} 0 1 = cc in absurd (omega arith)
   led_refused (Err k) j h w x =
       let r = w.0 (λ y. h (sym (ap answered x) ∙ ap number y)) in
-      (ap placed_says r.0 ∙ x, r.1)
+      (ap placed_says r.0 ∙ ap refuses (ap answered x), r.1)
 
   led_full : (z : Result (ℕ × Numbers) Refusal) → MovesIfFull n hash most s d z a e → inserted_says z ≡ refuses 7 → MovesWorked n hash most s d a e
   led_full (Ok p) w x = let v : ◌≡◌ {A = ℕ} 0 1 = cc in absurd (omega arith)

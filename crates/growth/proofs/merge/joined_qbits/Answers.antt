@@ -4,7 +4,6 @@ use mathlib.Core.Path.{◌≡◌, sym, ◌∙◌}
 use native.Mathlib.Omega.{arith}
 use Rattle.theory.specs.plan.Needed.{width_here, width_on, width_past}
 use Rattle.growth.proofs.merge.joined_qbits.Goals as goal
-use Rattle.growth.proofs.merge.joined_qbits.Goals.{else-loop-qbits-test, then-loop-qbits-test+else-wanted-capacity_of+else-qbits-last}
 
 pub returns-then-wanted-capacity_of : goal.returns-then-wanted-capacity_of
 returns-then-wanted-capacity_of c =
@@ -13,14 +12,9 @@ returns-then-wanted-capacity_of c =
 pub loop-qbits-preserved : goal.loop-qbits-preserved
 loop-qbits-preserved c = sym (width_on c.args.last c.loop-qbits.qbits c.args.wanted (omega arith) (omega (arith, c.capacity_of.ensures, c.if-wanted-capacity_of.false))) ∙ c.loop-qbits.invariant
 
-pub returns : goal.returns
-returns c =
+pub returns-else-wanted-capacity_of : goal.returns-else-wanted-capacity_of
+returns-else-wanted-capacity_of c =
     let a = c.args in
-    let i = c.loop-qbits.invariant in
-    let past = width_past a.last (a.last + 1) a.wanted (omega arith) in
-    elim c.loop-qbits-test.branch [
-      | else-loop-qbits-test w ↦ let e : c.loop-qbits.qbits ≡ a.last + 1 = omega arith in omega (arith, sym past ∙ rw e at i)
-      | then-loop-qbits-test+else-wanted-capacity_of+else-qbits-last w ↦
-          let e : c.loop-qbits.qbits ≡ a.last = omega arith in
-          omega (arith, sym past ∙ rw e at (sym (width_on a.last c.loop-qbits.qbits a.wanted (omega arith) (omega (arith, w.capacity_of.ensures, w.if-wanted-capacity_of.false))) ∙ i))
-    ]
+    let e : c.loop-qbits.qbits ≡ a.last = omega arith in
+    let on = width_on a.last c.loop-qbits.qbits a.wanted (omega arith) (omega (arith, c.capacity_of.ensures, c.if-wanted-capacity_of.false)) in
+    omega (arith, width_past a.last (a.last + 1) a.wanted (omega arith), rw e at (sym on ∙ c.loop-qbits.invariant))
