@@ -19,6 +19,7 @@ fn absent(a: Source, hash: u64) -> bool
 }
 
 // A hash cut to the width of a shape.
+#[tactic(auto, using(theory::specs::reading::ListingPlaces::join_high, theory::specs::reading::ListingPlaces::join_lt))]
 fn cut(shape: Shape, hash: u64) -> u64
     requires { Widths shape.qbits shape.rbits }
     ensures { result ≡ fingerprint shape.qbits shape.rbits hash }

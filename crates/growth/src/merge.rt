@@ -18,6 +18,7 @@ use layout::refusal::Refusal;
 use layout::shape::Shape;
 
 // The max_count that each insert of a merge gets.
+#[tactic(auto, using(crate::specs::Merging::most_all))]
 fn max_count_of(keep: u64) -> u64
     ensures { result ≡ most_of keep }
 {
@@ -25,6 +26,7 @@ fn max_count_of(keep: u64) -> u64
 }
 
 // What the result needs capacity for, at equal widths.
+#[tactic(auto, using(theory::specs::plan::Limits::few, layout::specs::Judging::clear_of))]
 fn wanted_len(buf: &[u8], n: Numbers, other: &[u8], m: Numbers, keep: u64) -> u64
     requires { (lowest_due n buf.now ≡ 0) × (lowest_due m other.now ≡ 0) × (m.qbits + m.rbits ≡ n.qbits + n.rbits) }
     ensures { Wants n buf.now m other.now keep result }
@@ -37,6 +39,7 @@ fn wanted_len(buf: &[u8], n: Numbers, other: &[u8], m: Numbers, keep: u64) -> u6
 }
 
 // The smallest qbits from the first to the last that has the capacity, if one has.
+#[tactic(auto, using(theory::specs::plan::Needed::width_here, theory::specs::plan::Needed::width_on, theory::specs::plan::Needed::width_past))]
 fn joined_qbits(first: u8, last: u8, wanted: u64) -> Option<u8>
     requires { (6 ≤ first) × (first ≤ last) × (last ≤ 59) }
     ensures { WidthUpTo first last wanted result }
@@ -50,6 +53,7 @@ fn joined_qbits(first: u8, last: u8, wanted: u64) -> Option<u8>
 }
 
 // The largest qbits that the result may have.
+#[tactic(auto, using(theory::specs::plan::Limits::limit_own, theory::specs::plan::Limits::limit_max))]
 fn limit_of(n: Numbers) -> u8
     ensures { result ≡ limit n.qbits n.max_qbits }
 {
@@ -125,6 +129,7 @@ fn merge_wider(
 }
 
 // Number 19 if the families differ, then 8 if other's width is smaller; else the case that the widths tell.
+#[tactic(auto, using(layout::specs::Judging::clear_of, crate::specs::Merging::pair_differ, crate::specs::Merging::pair_same, crate::specs::Merging::sound_narrower, crate::specs::Merging::sound_equal, crate::specs::Merging::sound_wider))]
 fn merge_sound(
     buf: &[u8],
     n: Numbers,

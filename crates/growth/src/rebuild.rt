@@ -14,6 +14,7 @@ use layout::refusal::Refusal;
 use layout::shape::Shape;
 
 // The destination is made empty; or number 12, and it stays as it was. The fresh filter's record, of family 0, is not used.
+#[tactic(auto, using(crate::specs::Rebuilding::made_empties))]
 pub fn empty_out(dest: &mut [u8], shape: Shape, max_qbits: u8) -> Result<(), Refusal>
     requires { (Widths shape.qbits shape.rbits) × (max_due shape.qbits shape.rbits max_qbits ≡ 0) }
     ensures { Empties shape.qbits shape.rbits dest.old result dest.new }

@@ -20,6 +20,7 @@ impl<'a> Source<'a> {
     ghost use Rattle.growth.specs.Reading.{Reads};
 
     // A filter that passed 1 to 5.
+    #[tactic(auto, using(layout::specs::Judging::clear_whole))]
     pub fn new(buf: &'a [u8], n: Numbers) -> Source<'a>
         requires { lowest_due n buf.now ≡ 0 }
         ensures { Reads n buf.now result }
