@@ -1,5 +1,5 @@
 -- A merge at equal widths: 7, 12, or both lists taken in. Assumes nothing.
-use Rattle.std.specs.Prelude.{ℕ, Ok, Err, suc, ◌+◌, ◌-◌, ◌^◌, ◌≤◌, ◌<◌, ◌≡◌, refl, List, [], length}
+use Rattle.std.specs.Prelude.{ℕ, Some, None, Ok, Err, suc, ◌+◌, ◌-◌, ◌^◌, ◌≤◌, ◌<◌, ◌≡◌, refl, List, [], length}
 use Rattle.std.proofs.Common.{sym, subst, ◌∙◌, arith}
 use Rattle.std.proofs.Math.Path.{ap}
 use Rattle.std.proofs.Math.Decide.{dec_lt}
@@ -26,42 +26,45 @@ use Rattle.growth.specs.Take.{SameTail}
 use Rattle.growth.specs.Rebuilding.{Lands, Empties, lands_image, shows_empty, held_under}
 use Rattle.layout.specs.Records.{shape_of, width_of, with_shape, lowest_due, HoldsOf}
 use Rattle.layout.specs.Outcomes.{leaves_refused, leaves_done}
-use Rattle.growth.specs.Merging.{Joins, MergesEqual, Wants, qbits_for, shape_for}
+use Rattle.growth.specs.Merging.{Joins, MergesEqual, Wants, WidthUpTo, qbits_for, shape_for}
 use Rattle.growth.specs.MergeLists.{Under-width, joins_both, joins_own, shows_other, shows_self}
 
 module _ (n : Numbers) (s : List ℕ) (m : Numbers) (o : List ℕ) (e : lowest_due n s ≡ 0) (f : lowest_due m o ≡ 0) (same : width_of m ≡ width_of n) (keep W : ℕ) (wn : Wants n s m o keep W)
-    (last : ℕ) (el : last ≡ limit n.qbits n.max_qbits) (q : ℕ) (eq : q ≡ width_from (suc (last - n.qbits)) n.qbits W) (low : n.qbits ≤ q) (d : List ℕ) where
-  is_q : (la lb : List ℕ) → HoldsOf n s la → HoldsOf m o lb → q ≡ qbits_for n keep la lb
+    (last : ℕ) (el : last ≡ limit n.qbits n.max_qbits) (d : List ℕ) where
+  is_j : (la lb : List ℕ) → HoldsOf n s la → HoldsOf m o lb → width_from (suc (last - n.qbits)) n.qbits W ≡ qbits_for n keep la lb
   unfolding joined_qbits
-  is_q la lb x y =
-      eq ∙ ap (λ z. width_from (suc (z - n.qbits)) n.qbits W) el ∙ ap (width_from (suc (limit n.qbits n.max_qbits - n.qbits)) n.qbits) (wn.right la lb x y)
+  is_j la lb x y =
+      ap (λ z. width_from (suc (z - n.qbits)) n.qbits W) el ∙ ap (width_from (suc (limit n.qbits n.max_qbits - n.qbits)) n.qbits) (wn.right la lb x y)
 
-  abbrev rest : ℕ
-  rest = width_of n - q
-
-  abbrev shape : Shape
-  shape = shape_for n q
-
-  -- the promise, at the width found
-  abbrev At : List ℕ → List ℕ → Answer Numbers → List ℕ → ℕ → Type 0
-  At la lb a t z =
-      Lands (or_else (joined_due n.qbits n.max_qbits (wanted keep la lb)) (destination_due z (width_of n - z) (length d))) (with_shape n (shape_for n z) (length (joined keep la lb))) (joined keep la lb) d a t
-
-  pub equal_seven : last < q → MergesEqual n s m o keep d (Err NoRoom) d
+  pub equal_seven : WidthUpTo n.qbits last W None → MergesEqual n s m o keep d (Err NoRoom) d
   unfolding joined_due
-  equal_seven h la lb x y =
+  equal_seven none la lb x y =
       let j = qbits_for n keep la lb in
       let k : joined_due n.qbits n.max_qbits (wanted keep la lb) ≡ 7 =
-      choose_yes (dec_lt (limit n.qbits n.max_qbits) j) 7 0 (omega (arith, el, is_q la lb x y)) in
+      choose_yes (dec_lt (limit n.qbits n.max_qbits) j) 7 0 (omega (arith, el, none, is_j la lb x y)) in
       leaves_refused _ (with_shape n (shape_for n j) (length (joined keep la lb))) _ (joined keep la lb) d 7 (else_some (joined_due n.qbits n.max_qbits (wanted keep la lb)) _ (omega arith) ∙ k) (omega arith)
 
-  module _ (fits : q ≤ last) where
+  module _ (q : ℕ) (found : WidthUpTo n.qbits last W (Some q)) where
+    abbrev rest : ℕ
+    rest = width_of n - q
+
+    abbrev shape : Shape
+    shape = shape_for n q
+
+    is_q : (la lb : List ℕ) → HoldsOf n s la → HoldsOf m o lb → q ≡ qbits_for n keep la lb
+    is_q la lb x y = found.0 ∙ is_j la lb x y
+
+    -- the promise, at the width found
+    abbrev At : List ℕ → List ℕ → Answer Numbers → List ℕ → ℕ → Type 0
+    At la lb a t z =
+        Lands (or_else (joined_due n.qbits n.max_qbits (wanted keep la lb)) (destination_due z (width_of n - z) (length d))) (with_shape n (shape_for n z) (length (joined keep la lb))) (joined keep la lb) d a t
+
     not_seven : (la lb : List ℕ) → HoldsOf n s la → HoldsOf m o lb → joined_due n.qbits n.max_qbits (wanted keep la lb) ≡ 0
     unfolding joined_due
-    not_seven la lb x y = choose_no (dec_lt (limit n.qbits n.max_qbits) (qbits_for n keep la lb)) 7 0 (λ z. omega (arith, el, is_q la lb x y))
+    not_seven la lb x y = choose_no (dec_lt (limit n.qbits n.max_qbits) (qbits_for n keep la lb)) 7 0 (λ z. omega (arith, el, found.2, is_q la lb x y))
 
     pub equal_fits : (Widths q rest) × (max_due q rest n.max_qbits ≡ 0) × (q ≤ n.qbits + n.rbits)
-    equal_fits = limit_widths _ _ _ _ _ e q low (omega arith)
+    equal_fits = limit_widths _ _ _ _ _ e q found.1 (omega (arith, found.2))
 
     pub equal_twelve : (k : Refusal) (t : List ℕ) → Empties q rest d (Err k) t → MergesEqual n s m o keep d (Err k) t
     equal_twelve k t g la lb x y =
@@ -81,7 +84,7 @@ module _ (n : Numbers) (s : List ℕ) (m : Numbers) (o : List ℕ) (e : lowest_d
         let nb : length lb < 2 ^ 60 = omega (arith, y.many, few _ _ _ _ _ f) in
         let own = joins_own h keep la ua x.holding.ascending na in
         let both = joins_both h keep la lb ub na nb in
-        let has : W ≤ capacity q = rw eq (width_found (suc (last - n.qbits)) n.qbits W (omega (arith, eq))) in
+        let has : W ≤ capacity q = rw found.0 (width_found (suc (last - n.qbits)) n.qbits W (omega (arith, found.0, found.1, found.2))) in
         let room : wanted keep la lb ≤ capacity q = omega (arith, has, wn.right la lb x y) in
         let made : t₀ ≡ image q rest [] = g.1 in
         let one = j.first.right [] la (shows_self n s m o e f la x) (sym x.many) (subst (λ (z : List ℕ). Shows h z []) (sym made) (shows_empty h w.0.low)) refl (omega (arith, ap length own, (own_wanted keep la lb).0)) in

@@ -95,7 +95,9 @@ fn merge_sorted(
     ensures { MergesEqual n buf.now m other.now keep dest.old result dest.new }
 {
     let wanted = wanted_len(buf, n, other, m, keep);
-    let qbits = joined_qbits(n.qbits, limit_of(n), wanted).ok_or(Refusal::NoRoom)?;
+    let Some(qbits) = joined_qbits(n.qbits, limit_of(n), wanted) else {
+        return Err(Refusal::NoRoom);
+    };
     let shape = Shape {
         qbits,
         rbits: n.qbits + n.rbits - qbits,
