@@ -65,6 +65,7 @@ fn limit_of(n: Numbers) -> u8
 }
 
 // Both lists are taken into an empty destination.
+#[tactic(auto, using(theory::specs::plan::Limits::few))]
 fn join(
     buf: &[u8],
     n: Numbers,
@@ -83,6 +84,7 @@ fn join(
 }
 
 // As many bits of fingerprint on both sides: copies are added up, or, without duplicates, one of each is kept. Number 7, then 12.
+#[tactic(auto, using(layout::specs::Judging::clear_of, theory::specs::plan::Limits::limit_fits))]
 fn merge_sorted(
     buf: &[u8],
     n: Numbers,
@@ -108,6 +110,7 @@ fn merge_sorted(
 }
 
 // Other wider: its fingerprints, cut to self's width, are added to self's; without duplicates only absent ones, once each. Number 7, then 12.
+#[tactic(auto, using(layout::specs::Judging::clear_whole, layout::specs::Judging::clear_within, theory::specs::plan::Limits::few))]
 fn merge_wider(
     buf: &[u8],
     n: Numbers,

@@ -17,12 +17,6 @@ fits c =
     let a = c.args in
     equal_fits a.n a.buf.now a.m a.other.now c.requires.0 c.requires.1 c.requires.2 a.keep _ c.wanted_len-wanted.ensures _ c.limit_of.ensures a.dest.now _ c.in-Some.ensures
 
-pub joined_qbits-requires : goal.joined_qbits-requires
-joined_qbits-requires c =
-    let a = c.args in
-    let g = limit_fits _ _ _ _ _ c.requires.0 in
-    ((clear_of a.n a.buf.now c.requires.0).widths.low, omega (arith, c.limit_of.ensures, g.0), omega (arith, c.limit_of.ensures, g.1))
-
 pub returns-in_default : goal.returns-in_default
 returns-in_default c =
     let a = c.args in

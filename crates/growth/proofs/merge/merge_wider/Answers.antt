@@ -8,11 +8,6 @@ use Rattle.layout.specs.Refusals.{handed_on}
 use Rattle.growth.specs.MergeWider.{wider_seven, wider_twelve, wider_built}
 use Rattle.growth.proofs.merge.merge_wider.Goals as goal
 
-pub wider_due-requires : goal.wider_due-requires
-wider_due-requires c =
-    let x = c.new.ensures in
-    rw (x.shape, x.len) (clear_within c.args.n c.args.buf.now c.requires.0)
-
 pub returns-in_err-wider_due : goal.returns-in_err-wider_due
 returns-in_err-wider_due c =
     let a = c.args in
@@ -22,12 +17,6 @@ pub returns-then-dest-buf : goal.returns-then-dest-buf
 returns-then-dest-buf c =
     let a = c.args in
     wider_twelve a.n a.buf.now a.m a.other.now c.requires.0 c.requires.1 a.keep _ _ c.new.ensures c.new-added.ensures a.dest.now _ c.in_ok-wider_due.ensures c.if-dest-buf.true
-
-pub take_in-len-requires : goal.take_in-len-requires
-take_in-len-requires c =
-    let a = c.args in
-    rw (c.shape.ensures, c.copy_from_slice.ensures.after)
-    (clear_whole a.n a.buf.now c.requires.0, omega (arith, c.new-added.ensures.len, few _ _ _ _ _ c.requires.0, few _ _ _ _ _ c.requires.1))
 
 pub returns : goal.returns
 returns c =
