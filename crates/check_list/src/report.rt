@@ -38,13 +38,7 @@ pub fn input_room() -> [u8; INPUT]
 fn mark_due(input: &[u8]) -> u8
     ensures { result ≡ mark_due input.now }
 {
-    if input.len() < HEADER {
-        return 13;
-    }
-    if input[0] != 0x51 {
-        return 13;
-    }
-    if input[1] != 0x46 {
+    if input.len() < HEADER || input[0] != 0x51 || input[1] != 0x46 {
         return 13;
     }
     0
@@ -92,8 +86,7 @@ fn put_step(out: &mut [u8], buf: &[u8], n: Numbers, place: Place) -> Place
     ensures { PutStep n buf.now place out.old out.new result }
 {
     let stepped = step_from(buf, n, place);
-    let step = stepped.step;
-    let Step::Fingerprint(f) = step else {
+    let Step::Fingerprint(f) = stepped.step else {
         return stepped.place;
     };
     put_line(out, f);
@@ -105,13 +98,12 @@ fn put_lines(out: &mut [u8], buf: &[u8], n: Numbers, first: Place) -> usize
     requires { (Ready n buf.now first) × (17 * n.len ≤ length out.old) }
     ensures { (h : SoundOf n buf.now) → Written (lines h.held) out.old out.new result }
 {
+    let count = n.len as usize;
     let mut place = first;
-    let mut at = 0;
-    while 0 < place.remaining {
-        place = put_step(&mut out[at..], buf, n, place);
-        at += 17;
+    for k in 0..count {
+        place = put_step(&mut out[17 * k..], buf, n, place);
     }
-    at
+    17 * count
 }
 
 // The line of a sound filter, and a line for each fingerprint.
@@ -133,8 +125,7 @@ pub fn report(input: &[u8], out: &mut [u8; TEXT]) -> usize
     }
     let n = numbers_of(input);
     let buf = &input[HEADER..];
-    let begun = begin(buf, n);
-    match begun {
+    match begin(buf, n) {
         Begun::Refused(number) => put_refused(out, number),
         Begun::At(place) => put_sound(out, buf, n, place),
     }
