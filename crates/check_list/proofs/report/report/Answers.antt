@@ -18,7 +18,7 @@ pub numbers_of-n-requires : goal.numbers_of-n-requires
 numbers_of-n-requires c = (none_header _ c.in_default.ensures).0
 
 pub slice_bounds-buf-count : goal.slice_bounds-buf-count
-slice_bounds-buf-count c = (none_header _ c.in_default.ensures).0
+slice_bounds-buf-count c = omega (arith, (none_header _ c.in_default.ensures).0)
 
 pub slice_bounds-buf-start : goal.slice_bounds-buf-start
 slice_bounds-buf-start c = omega (arith, (none_header _ c.in_default.ensures).0)
