@@ -37,6 +37,7 @@ pub fn input_room() -> [u8; INPUT]
 }
 
 // Number 13, if the header is cut short or its mark is another.
+#[tactic(auto, using(theory::specs::refusals::ProgramAsks::mark_short, theory::specs::refusals::ProgramAsks::mark_first, theory::specs::refusals::ProgramAsks::mark_second, theory::specs::refusals::ProgramAsks::mark_none))]
 fn mark_due(input: &[u8]) -> Result<(), Refusal>
     ensures { Asked (mark_due input.now) result }
 {

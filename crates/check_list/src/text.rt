@@ -13,6 +13,7 @@ fn put_bytes(out: &mut [u8], text: &[u8]) -> usize
 }
 
 // A digit: 0 to 9, then a to f.
+#[tactic(auto, using(theory::specs::program::Numerals::digit_low, theory::specs::program::Numerals::digit_high))]
 fn digit(d: u64) -> u8
     requires { d < 16 }
     ensures { result ≡ digit_of d }

@@ -2,12 +2,12 @@
 use crate::script::Call;
 use crate::state::{Lent, low, numbers_of, part};
 use crate::{ROOM, say};
-use layout::fresh::Made;
 use layout::numbers::Numbers;
+use layout::refusal::Refusal;
 use std::io;
 use writing::writers::{
-    Inserted, Removed, insert_fingerprint_counting, insert_fingerprint_counting_quick,
-    remove_fingerprint, remove_fingerprint_quick,
+    insert_fingerprint_counting, insert_fingerprint_counting_quick, remove_fingerprint,
+    remove_fingerprint_quick,
 };
 
 // A fresh filter, an insert, a remove, many of either, or nothing, after a byte was made another.
@@ -26,44 +26,52 @@ pub enum Ask {
 // A fresh filter of these widths and this family.
 fn fresh(rt: &impl Print, buf: &mut [u8], n: Numbers, asked: Numbers) -> io::Result<Numbers> {
     match layout::fresh::fresh(buf, asked.qbits, asked.rbits, asked.max_qbits, asked.family) {
-        Made::Fresh(after) => {
+        Ok(after) => {
             print!(rt; "fresh")?;
             Ok(after)
         }
-        Made::Refused(k) => {
-            say::refused(rt, k)?;
+        Err(refusal) => {
+            say::refused(rt, refusal)?;
             Ok(n)
         }
     }
 }
 
 // An insert's answer said, and the record after it.
-fn say_inserted(rt: &impl Print, n: Numbers, inserted: Inserted) -> io::Result<Numbers> {
+fn say_inserted(
+    rt: &impl Print,
+    n: Numbers,
+    inserted: Result<(u64, Numbers), Refusal>,
+) -> io::Result<Numbers> {
     match inserted {
-        Inserted::Counted(m, after) => {
+        Ok((m, after)) => {
             print!(rt; "counted {m}")?;
             Ok(after)
         }
-        Inserted::Refused(k) => {
-            say::refused(rt, k)?;
+        Err(refusal) => {
+            say::refused(rt, refusal)?;
             Ok(n)
         }
     }
 }
 
 // A remove's answer said, and the record after it.
-fn say_removed(rt: &impl Print, n: Numbers, removed: Removed) -> io::Result<Numbers> {
+fn say_removed(
+    rt: &impl Print,
+    n: Numbers,
+    removed: Result<Option<Numbers>, Refusal>,
+) -> io::Result<Numbers> {
     match removed {
-        Removed::Gone(after) => {
+        Ok(Some(after)) => {
             print!(rt; "gone")?;
             Ok(after)
         }
-        Removed::Absent => {
+        Ok(None) => {
             print!(rt; "absent")?;
             Ok(n)
         }
-        Removed::Refused(k) => {
-            say::refused(rt, k)?;
+        Err(refusal) => {
+            say::refused(rt, refusal)?;
             Ok(n)
         }
     }
@@ -72,16 +80,16 @@ fn say_removed(rt: &impl Print, n: Numbers, removed: Removed) -> io::Result<Numb
 // One insert among many; the record after it, and after a refusal the one before.
 fn insert_one(buf: &mut [u8], n: Numbers, hash: u64) -> Numbers {
     match insert_fingerprint_counting_quick(buf, n, hash, u64::MAX) {
-        Inserted::Counted(_, after) => after,
-        Inserted::Refused(_) => n,
+        Ok((_, after)) => after,
+        Err(_) => n,
     }
 }
 
 // The same of a remove.
 fn remove_one(buf: &mut [u8], n: Numbers, hash: u64) -> Numbers {
     match remove_fingerprint_quick(buf, n, hash) {
-        Removed::Gone(after) => after,
-        Removed::Absent | Removed::Refused(_) => n,
+        Ok(Some(after)) => after,
+        Ok(None) | Err(_) => n,
     }
 }
 

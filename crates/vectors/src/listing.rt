@@ -1,8 +1,10 @@
 // A listing's beginning and its steps.
 use crate::say;
 use crate::state::{Lent, part};
-use filter::listing::{Begun, Place, Step};
+use filter::listing::{Place, step_from};
+use filter::reader::next_two;
 use layout::numbers::Numbers;
+use layout::refusal::Refusal;
 use std::io;
 
 // The beginning, a step by value, or two steps of a reader.
@@ -16,30 +18,30 @@ pub enum Ask {
 // A listing begun: its first place, or the one before.
 fn begin(rt: &impl Print, buf: &[u8], n: Numbers, place: Place) -> io::Result<Place> {
     match filter::listing::begin(buf, n) {
-        Begun::At(first) => {
+        Ok(first) => {
             print!(rt; "at")?;
             say::place(rt, first)?;
             Ok(first)
         }
-        Begun::Refused(k) => {
-            say::refused(rt, k)?;
+        Err(refusal) => {
+            say::refused(rt, refusal)?;
             Ok(place)
         }
     }
 }
 
 // A step's answer said.
-fn say_step(rt: &impl Print, step: Step) -> io::Result<()> {
+fn say_step(rt: &impl Print, step: Result<Option<u64>, Refusal>) -> io::Result<()> {
     match step {
-        Step::Fingerprint(f) => print!(rt; "fingerprint {f:016x}"),
-        Step::Done => print!(rt; "done"),
-        Step::Refused(k) => say::refused(rt, k),
+        Ok(Some(f)) => print!(rt; "fingerprint {f:016x}"),
+        Ok(None) => print!(rt; "done"),
+        Err(refusal) => say::refused(rt, refusal),
     }
 }
 
 // One step by value: its answer said, and the place after it.
 fn step(rt: &impl Print, buf: &[u8], n: Numbers, place: Place) -> io::Result<Place> {
-    let stepped = filter::listing::step_from(buf, n, place);
+    let stepped = step_from(buf, n, place);
     say_step(rt, stepped.step)?;
     say::place(rt, stepped.place)?;
     Ok(stepped.place)
@@ -47,7 +49,7 @@ fn step(rt: &impl Print, buf: &[u8], n: Numbers, place: Place) -> io::Result<Pla
 
 // Two steps of a reader, which keeps buffer and place together.
 fn two(rt: &impl Print, buf: &[u8], n: Numbers, place: Place) -> io::Result<Place> {
-    let two = filter::reader::next_two(buf, n, place);
+    let two = next_two(buf, n, place);
     say_step(rt, two.first)?;
     print!(rt; " ")?;
     say_step(rt, two.second)?;

@@ -1,8 +1,7 @@
 // Select and planning: no buffer.
 use crate::say;
 use crate::script::Call;
-use bits::select::Nth;
-use layout::planning::{FilterSpecs, Needed, Planned, Specified};
+use layout::planning::{FilterSpecs, filter_specs, needed_qbits, plan_resizeable};
 use std::io;
 
 // Select, or a plan: the slots, the specs, or the widths.
@@ -32,16 +31,16 @@ fn rate_of(pattern: u64) -> f64 {
 // The n-th one of a word, said.
 fn select(rt: &impl Print, word: u64, n: u64) -> io::Result<()> {
     match bits::select::select(word, n) {
-        Nth::At(p) => print!(rt; "at {p}"),
-        Nth::Nothing => print!(rt; "nothing"),
+        Some(p) => print!(rt; "at {p}"),
+        None => print!(rt; "nothing"),
     }
 }
 
 // The qbits for a capacity, said.
 fn needed(rt: &impl Print, capacity: u64) -> io::Result<()> {
-    match layout::planning::needed_qbits(capacity) {
-        Needed::Qbits(q) => print!(rt; "qbits {q}"),
-        Needed::Refused(k) => say::refused(rt, k),
+    match needed_qbits(capacity) {
+        Ok(q) => print!(rt; "qbits {q}"),
+        Err(refusal) => say::refused(rt, refusal),
     }
 }
 
@@ -55,20 +54,17 @@ fn say_specs(rt: &impl Print, s: FilterSpecs) -> io::Result<()> {
 
 // The specs for a capacity and a rate, said.
 fn specs(rt: &impl Print, capacity: u64, pattern: u64) -> io::Result<()> {
-    match layout::planning::filter_specs(capacity, rate_of(pattern)) {
-        Specified::Specs(s) => say_specs(rt, s),
-        Specified::Refused(k) => say::refused(rt, k),
+    match filter_specs(capacity, rate_of(pattern)) {
+        Ok(s) => say_specs(rt, s),
+        Err(refusal) => say::refused(rt, refusal),
     }
 }
 
 // The plan for two capacities and a rate, said.
 fn plan(rt: &impl Print, initial: u64, most: u64, pattern: u64) -> io::Result<()> {
-    match layout::planning::plan_resizeable(initial, most, rate_of(pattern)) {
-        Planned::Widths(shape, max_qbits) => print!(rt;
-            "widths {} {} {max_qbits}",
-            shape.qbits, shape.rbits
-        ),
-        Planned::Refused(k) => say::refused(rt, k),
+    match plan_resizeable(initial, most, rate_of(pattern)) {
+        Ok((shape, max_qbits)) => print!(rt; "widths {} {} {max_qbits}", shape.qbits, shape.rbits),
+        Err(refusal) => say::refused(rt, refusal),
     }
 }
 

@@ -3,11 +3,11 @@ use crate::say;
 use crate::script::Call;
 use crate::state::{Lent, part};
 use filter::contains::{
-    Counting, Lookup, contains_fingerprint, contains_fingerprint_quick, count_fingerprint,
-    count_fingerprint_quick,
+    contains_fingerprint, contains_fingerprint_quick, count_fingerprint, count_fingerprint_quick,
 };
-use layout::check::Verdict;
+use filter::lookup::Lookup;
 use layout::numbers::Numbers;
+use layout::refusal::Refusal;
 use std::io;
 
 // The check, or a lookup or a count of a hash, which may be quick.
@@ -23,25 +23,25 @@ pub enum Ask {
 // The check's verdict, said.
 fn check(rt: &impl Print, buf: &[u8], n: Numbers) -> io::Result<()> {
     match layout::check::check(buf, n) {
-        Verdict::Sound => print!(rt; "sound"),
-        Verdict::Refused(k) => say::refused(rt, k),
+        Ok(()) => print!(rt; "sound"),
+        Err(refusal) => say::refused(rt, refusal),
     }
 }
 
 // A lookup's answer said.
-fn say_lookup(rt: &impl Print, lookup: Lookup) -> io::Result<()> {
+fn say_lookup(rt: &impl Print, lookup: Result<Lookup, Refusal>) -> io::Result<()> {
     match lookup {
-        Lookup::Held(k) => print!(rt; "held {k}"),
-        Lookup::Absent(k) => print!(rt; "absent {k}"),
-        Lookup::Refused(k) => say::refused(rt, k),
+        Ok(Lookup::Held(k)) => print!(rt; "held {k}"),
+        Ok(Lookup::Absent(k)) => print!(rt; "absent {k}"),
+        Err(refusal) => say::refused(rt, refusal),
     }
 }
 
 // A count's answer said.
-fn say_count(rt: &impl Print, counting: Counting) -> io::Result<()> {
-    match counting {
-        Counting::Copies(m) => print!(rt; "copies {m}"),
-        Counting::Refused(k) => say::refused(rt, k),
+fn say_count(rt: &impl Print, count: Result<u64, Refusal>) -> io::Result<()> {
+    match count {
+        Ok(m) => print!(rt; "copies {m}"),
+        Err(refusal) => say::refused(rt, refusal),
     }
 }
 

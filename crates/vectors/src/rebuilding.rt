@@ -4,8 +4,10 @@ use crate::script::Call;
 use crate::state::{Lent, State, part};
 use growth::holder::holder;
 use growth::merge::merge;
-use growth::rebuild::{Rebuilt, rebuild_grown};
+use growth::rebuild::rebuild_grown;
 use growth::spare::{Placed, insert_with_spare, insert_with_spare_quick};
+use layout::numbers::Numbers;
+use layout::refusal::Refusal;
 use std::io;
 
 // Growth, an insert with a spare, which may be quick, or a merge.
@@ -18,14 +20,19 @@ pub enum Ask {
 }
 
 // What was rebuilt in the destination: its record, and the sum of its bytes; after a refusal, the record is the one before.
-fn say_rebuilt(rt: &impl Print, rebuilt: Rebuilt, lent: &mut Lent, dest: &[u8]) -> io::Result<()> {
+fn say_rebuilt(
+    rt: &impl Print,
+    rebuilt: Result<Numbers, Refusal>,
+    lent: &mut Lent,
+    dest: &[u8],
+) -> io::Result<()> {
     match rebuilt {
-        Rebuilt::Filter(after) => {
+        Ok(after) => {
             lent.numbers = after;
             print!(rt; "filter")?;
             say::record(rt, after)?;
         }
-        Rebuilt::Refused(k) => say::refused(rt, k)?,
+        Err(refusal) => say::refused(rt, refusal)?,
     }
     say::sum(rt, lent.size, dest)
 }
@@ -46,24 +53,28 @@ fn grow(
 }
 
 // Which buffer counts, and its record there.
-fn say_placed(rt: &impl Print, placed: Placed, state: &mut State) -> io::Result<()> {
+fn say_placed(
+    rt: &impl Print,
+    placed: Result<Placed, Refusal>,
+    state: &mut State,
+) -> io::Result<()> {
     match placed {
-        Placed::InOld(m, numbers) => {
+        Ok(Placed::InOld(m, numbers)) => {
             state.own.numbers = numbers;
             print!(rt; "old {m}")?;
             say::record(rt, numbers)
         }
-        Placed::InSpare(m, numbers) => {
+        Ok(Placed::InSpare(m, numbers)) => {
             state.dest.numbers = numbers;
             print!(rt; "spare {m}")?;
             say::record(rt, numbers)
         }
-        Placed::Refused(k) => say::refused(rt, k),
+        Err(refusal) => say::refused(rt, refusal),
     }
 }
 
 // What stands in the buffer handed back: 1 in the old one, 2 in the spare.
-fn say_holder(rt: &impl Print, placed: Placed) -> io::Result<()> {
+fn say_holder(rt: &impl Print, placed: Result<Placed, Refusal>) -> io::Result<()> {
     let mut old = [1; 1];
     let mut spare = [2; 1];
     match holder(&mut old, &mut spare, placed) {

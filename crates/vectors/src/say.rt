@@ -4,14 +4,15 @@ ghost use Rattle.std.specs.Prelude.{◌<◌};
 use crate::state::part;
 use filter::listing::Place;
 use layout::numbers::Numbers;
+use layout::refusal::Refusal;
 use std::io;
 
 // The largest prime below 2 ^ 32.
 const MODULUS: u64 = 4294967291;
 
 // A refusal and its number.
-pub fn refused(rt: &impl Print, k: u8) -> io::Result<()> {
-    print!(rt; "refused {k}")
+pub fn refused(rt: &impl Print, refusal: Refusal) -> io::Result<()> {
+    print!(rt; "refused {refusal}")
 }
 
 // A record: len, widths and family.
