@@ -1,12 +1,11 @@
 -- What a reading is handed, and answers of the check, lookup and count as plain structs.
-use Rattle.std.specs.Prelude.{ℕ, List}
+use Rattle.std.specs.Prelude.{ℕ, List, Result, Ok, Err}
 use Rattle.theory.specs.Answer.{number, values, not_looked}
 use Rattle.layout.specs.declared.numbers.Numbers.{Numbers}
 use Rattle.layout.specs.Records.{empty_record, with_len}
-use Rattle.layout.specs.declared.check.Verdict.{Verdict}
-use Rattle.layout.specs.declared.check.Verdict.TheVariants as verdict
-use Rattle.filter.specs.declared.contains.Lookup.{Lookup}
-use Rattle.filter.specs.declared.contains.Counting.{Counting}
+use Rattle.layout.specs.declared.refusal.Refusal.{Refusal}
+use Rattle.layout.specs.Refusals.{number as number_of}
+use Rattle.filter.specs.declared.lookup.Lookup.{Lookup}
 use Rattle.layout.specs.Verdicts.{Judged}
 use Rattle.filter.specs.Says.{lookup_says, counting_says}
 use Rattle.filter.specs.Asking.{Contains, ContainsQuick, Count, CountQuick}
@@ -23,20 +22,15 @@ abbrev pub OfAny : Sizes → (Numbers → Type 0) → Type 0
 OfAny n P = (family : ℕ) → P (record_of n family)
 
 -- 0 for sound, or the number
-abbrev pub verdict_of : Verdict → ℕ
-verdict_of verdict.Sound = 0
-verdict_of (verdict.Refused k) = k
+abbrev pub verdict_of : Result Unit Refusal → ℕ
+verdict_of (Ok _) = 0
+verdict_of (Err e) = number_of e
 
 abbrev pub CheckOutcome : Numbers → List ℕ → ℕ → Type 0
 CheckOutcome n s r = Shown (Judged n s) verdict_of r
 
--- whichever family the record is of
-pub judged_any : (n : Sizes) (family other : ℕ) (s : List ℕ) (v : Verdict) → Judged (record_of n family) s v → Judged (record_of n other) s v
-judged_any n family other s verdict.Sound h = h
-judged_any n family other s (verdict.Refused k) h = h
-
 -- what a lookup says, and zeros where it is refused
-abbrev pub looked_of : Lookup → Looked
+abbrev pub looked_of : Result Lookup Refusal → Looked
 looked_of a =
     let v = values not_looked (lookup_says a) in
     record { number = number (lookup_says a); held = v.held; compared = v.compared }
@@ -47,7 +41,7 @@ ContainsOutcome n s hash r = Shown (Contains n s hash) looked_of r
 abbrev pub ContainsQuickOutcome : Numbers → List ℕ → ℕ → Looked → Type 0
 ContainsQuickOutcome n s hash r = Shown (ContainsQuick n s hash) looked_of r
 
-abbrev pub counted_of : Counting → Outcome
+abbrev pub counted_of : Result ℕ Refusal → Outcome
 counted_of a = record { number = number (counting_says a); value = values 0 (counting_says a) }
 
 abbrev pub CountOutcome : Numbers → List ℕ → ℕ → Outcome → Type 0

@@ -2,22 +2,26 @@
 ghost use Rattle.std.specs.Prelude.{◌≡◌};
 ghost use Rattle.capi.specs.Writing.{inserted_of, InsertOutcome, InsertQuickOutcome, removed_of, RemoveOutcome, RemoveQuickOutcome};
 
-use crate::planning::Changed;
+use crate::planning::{Changed, number_of};
 use layout::numbers::Numbers;
-use writing::writers::{Inserted, Removed};
+use layout::refusal::Refusal;
+use writing::writers::{
+    insert_fingerprint_counting, insert_fingerprint_counting_quick, remove_fingerprint,
+    remove_fingerprint_quick,
+};
 
 // The answer of an insert, or its number, with the record from now on.
-fn as_inserted(inserted: Inserted, n: Numbers) -> Changed
+fn as_inserted(inserted: Result<(u64, Numbers), Refusal>, n: Numbers) -> Changed
     ensures { result ≡ inserted_of n inserted }
 {
     match inserted {
-        Inserted::Counted(m, after) => Changed {
+        Ok((answer, numbers)) => Changed {
             number: 0,
-            answer: m,
-            numbers: after,
+            answer,
+            numbers,
         },
-        Inserted::Refused(k) => Changed {
-            number: k as u64,
+        Err(refusal) => Changed {
+            number: number_of(refusal),
             answer: 0,
             numbers: n,
         },
@@ -29,10 +33,7 @@ fn as_inserted(inserted: Inserted, n: Numbers) -> Changed
 pub extern "C" fn strumblay_insert(buf: &mut [u8], n: Numbers, hash: u64, max_count: u64) -> Changed
     ensures { InsertOutcome n hash max_count buf.old result buf.new }
 {
-    as_inserted(
-        writing::writers::insert_fingerprint_counting(buf, n, hash, max_count),
-        n,
-    )
+    as_inserted(insert_fingerprint_counting(buf, n, hash, max_count), n)
 }
 
 // The same after asking 1 to 5 alone.
@@ -46,28 +47,28 @@ pub extern "C" fn strumblay_insert_quick(
     ensures { InsertQuickOutcome n hash max_count buf.old result buf.new }
 {
     as_inserted(
-        writing::writers::insert_fingerprint_counting_quick(buf, n, hash, max_count),
+        insert_fingerprint_counting_quick(buf, n, hash, max_count),
         n,
     )
 }
 
 // 1 if a copy went, else 0, or the number, with the record from now on.
-fn as_removed(removed: Removed, n: Numbers) -> Changed
+fn as_removed(removed: Result<Option<Numbers>, Refusal>, n: Numbers) -> Changed
     ensures { result ≡ removed_of n removed }
 {
     match removed {
-        Removed::Gone(after) => Changed {
+        Ok(Some(numbers)) => Changed {
             number: 0,
             answer: 1,
-            numbers: after,
+            numbers,
         },
-        Removed::Absent => Changed {
+        Ok(None) => Changed {
             number: 0,
             answer: 0,
             numbers: n,
         },
-        Removed::Refused(k) => Changed {
-            number: k as u64,
+        Err(refusal) => Changed {
+            number: number_of(refusal),
             answer: 0,
             numbers: n,
         },
@@ -79,7 +80,7 @@ fn as_removed(removed: Removed, n: Numbers) -> Changed
 pub extern "C" fn strumblay_remove(buf: &mut [u8], n: Numbers, hash: u64) -> Changed
     ensures { RemoveOutcome n hash buf.old result buf.new }
 {
-    as_removed(writing::writers::remove_fingerprint(buf, n, hash), n)
+    as_removed(remove_fingerprint(buf, n, hash), n)
 }
 
 // The same after asking 1 to 5 alone.
@@ -87,5 +88,5 @@ pub extern "C" fn strumblay_remove(buf: &mut [u8], n: Numbers, hash: u64) -> Cha
 pub extern "C" fn strumblay_remove_quick(buf: &mut [u8], n: Numbers, hash: u64) -> Changed
     ensures { RemoveQuickOutcome n hash buf.old result buf.new }
 {
-    as_removed(writing::writers::remove_fingerprint_quick(buf, n, hash), n)
+    as_removed(remove_fingerprint_quick(buf, n, hash), n)
 }

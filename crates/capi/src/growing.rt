@@ -2,10 +2,11 @@
 ghost use Rattle.std.specs.Prelude.{◌≡◌};
 ghost use Rattle.capi.specs.Growing.{rebuilt_of, GrowOutcome, placed_of, InsertSpareOutcome, InsertSpareQuickOutcome};
 
-use crate::planning::Changed;
-use growth::rebuild::Rebuilt;
-use growth::spare::Placed;
+use crate::planning::{Changed, number_of};
+use growth::rebuild::rebuild_grown;
+use growth::spare::{Placed, insert_with_spare, insert_with_spare_quick};
 use layout::numbers::Numbers;
+use layout::refusal::Refusal;
 
 // A writer's answer, whether the spare holds the filter from now on (1 or 0), and the record afterwards.
 #[repr(C)]
@@ -18,17 +19,17 @@ pub struct SpareAnswer {
 }
 
 // The record of what was rebuilt, or the number with the record given.
-pub fn as_rebuilt(rebuilt: Rebuilt, n: Numbers) -> Changed
+pub fn as_rebuilt(rebuilt: Result<Numbers, Refusal>, n: Numbers) -> Changed
     ensures { result ≡ rebuilt_of n rebuilt }
 {
     match rebuilt {
-        Rebuilt::Filter(after) => Changed {
+        Ok(numbers) => Changed {
             number: 0,
             answer: 0,
-            numbers: after,
+            numbers,
         },
-        Rebuilt::Refused(k) => Changed {
-            number: k as u64,
+        Err(refusal) => Changed {
+            number: number_of(refusal),
             answer: 0,
             numbers: n,
         },
@@ -40,28 +41,28 @@ pub fn as_rebuilt(rebuilt: Rebuilt, n: Numbers) -> Changed
 pub extern "C" fn strumblay_grow(buf: &[u8], n: Numbers, dest: &mut [u8]) -> Changed
     ensures { GrowOutcome n buf.now dest.old result dest.new }
 {
-    as_rebuilt(growth::rebuild::rebuild_grown(buf, n, dest), n)
+    as_rebuilt(rebuild_grown(buf, n, dest), n)
 }
 
 // The answer, the buffer that holds the filter and the record from now on, or the number.
-fn as_placed(placed: Placed, n: Numbers) -> SpareAnswer
+fn as_placed(placed: Result<Placed, Refusal>, n: Numbers) -> SpareAnswer
     ensures { result ≡ placed_of n placed }
 {
     match placed {
-        Placed::InOld(m, after) => SpareAnswer {
+        Ok(Placed::InOld(answer, numbers)) => SpareAnswer {
             number: 0,
-            answer: m,
+            answer,
             in_spare: 0,
-            numbers: after,
+            numbers,
         },
-        Placed::InSpare(m, after) => SpareAnswer {
+        Ok(Placed::InSpare(answer, numbers)) => SpareAnswer {
             number: 0,
-            answer: m,
+            answer,
             in_spare: 1,
-            numbers: after,
+            numbers,
         },
-        Placed::Refused(k) => SpareAnswer {
-            number: k as u64,
+        Err(refusal) => SpareAnswer {
+            number: number_of(refusal),
             answer: 0,
             in_spare: 0,
             numbers: n,
@@ -80,10 +81,7 @@ pub extern "C" fn strumblay_insert_spare(
 ) -> SpareAnswer
     ensures { InsertSpareOutcome n hash max_count buf.old spare.old result buf.new spare.new }
 {
-    as_placed(
-        growth::spare::insert_with_spare(buf, n, hash, max_count, spare),
-        n,
-    )
+    as_placed(insert_with_spare(buf, n, hash, max_count, spare), n)
 }
 
 // The same after asking 1 to 5 alone; growth, where it is due, is checked.
@@ -97,8 +95,5 @@ pub extern "C" fn strumblay_insert_spare_quick(
 ) -> SpareAnswer
     ensures { InsertSpareQuickOutcome n hash max_count buf.old spare.old result buf.new spare.new }
 {
-    as_placed(
-        growth::spare::insert_with_spare_quick(buf, n, hash, max_count, spare),
-        n,
-    )
+    as_placed(insert_with_spare_quick(buf, n, hash, max_count, spare), n)
 }

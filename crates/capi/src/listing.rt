@@ -3,8 +3,10 @@ ghost use Rattle.std.specs.Prelude.{◌≡◌};
 ghost use Rattle.capi.specs.Reading.{OfAny};
 ghost use Rattle.capi.specs.Listing.{begun_of, next_of, BeginOutcome, StepOutcome};
 
+use crate::planning::number_of;
 use crate::reading::Sizes;
-use filter::listing::{Begun, Place, Step};
+use filter::listing::{Place, Stepped, begin, step_from};
+use layout::refusal::Refusal;
 
 // The place of the first fingerprint, all 0 if refused.
 #[repr(C)]
@@ -25,45 +27,50 @@ pub struct Next {
 }
 
 // The first place, or the number.
-fn as_begun(begun: Begun) -> First
-    ensures { result ≡ begun_of begun }
-{
-    match begun {
-        Begun::At(place) => First { number: 0, place },
-        Begun::Refused(k) => First {
-            number: k as u64,
-            place: Place {
-                quotient: 0,
-                slot: 0,
-                remaining: 0,
+impl From<Result<Place, Refusal>> for First {
+    ghost from_gives = { λ answer result. result ≡ begun_of answer };
+
+    fn from(answer: Result<Place, Refusal>) -> First {
+        match answer {
+            Ok(place) => First { number: 0, place },
+            Err(refusal) => First {
+                number: number_of(refusal),
+                place: Place {
+                    quotient: 0,
+                    slot: 0,
+                    remaining: 0,
+                },
             },
-        },
+        }
     }
 }
 
 // The fingerprint, done, or the number, with the place after it.
-fn as_next(step: Step, place: Place) -> Next
-    ensures { result ≡ next_of place step }
-{
-    match step {
-        Step::Fingerprint(f) => Next {
-            number: 0,
-            found: 1,
-            fingerprint: f,
-            place,
-        },
-        Step::Done => Next {
-            number: 0,
-            found: 0,
-            fingerprint: 0,
-            place,
-        },
-        Step::Refused(k) => Next {
-            number: k as u64,
-            found: 0,
-            fingerprint: 0,
-            place,
-        },
+impl From<Stepped> for Next {
+    ghost from_gives = { λ stepped result. result ≡ next_of stepped.place stepped.step };
+
+    fn from(stepped: Stepped) -> Next {
+        let place = stepped.place;
+        match stepped.step {
+            Ok(Some(fingerprint)) => Next {
+                number: 0,
+                found: 1,
+                fingerprint,
+                place,
+            },
+            Ok(None) => Next {
+                number: 0,
+                found: 0,
+                fingerprint: 0,
+                place,
+            },
+            Err(refusal) => Next {
+                number: number_of(refusal),
+                found: 0,
+                fingerprint: 0,
+                place,
+            },
+        }
     }
 }
 
@@ -72,7 +79,7 @@ fn as_next(step: Step, place: Place) -> Next
 pub extern "C" fn strumblay_list_begin(buf: &[u8], n: Sizes) -> First
     ensures { OfAny n (λ m. BeginOutcome m buf.now result) }
 {
-    as_begun(filter::listing::begin(buf, n.numbers()))
+    begin(buf, n.into()).into()
 }
 
 // One step from a place, after asking 1 to 5.
@@ -80,7 +87,5 @@ pub extern "C" fn strumblay_list_begin(buf: &[u8], n: Sizes) -> First
 pub extern "C" fn strumblay_list_step(buf: &[u8], n: Sizes, place: Place) -> Next
     ensures { OfAny n (λ m. StepOutcome m buf.now place result) }
 {
-    let stepped = filter::listing::step_from(buf, n.numbers(), place);
-    let step = stepped.step;
-    as_next(step, stepped.place)
+    step_from(buf, n.into(), place).into()
 }

@@ -3,6 +3,7 @@ ghost use Rattle.capi.specs.Merging.{MergeOutcome};
 
 use crate::growing::as_rebuilt;
 use crate::planning::Changed;
+use growth::merge::merge;
 use layout::numbers::Numbers;
 
 // Both filters merged in the destination, with duplicates unless keep_duplicates is 0.
@@ -17,8 +18,5 @@ pub extern "C" fn strumblay_merge(
 ) -> Changed
     ensures { MergeOutcome n buf.now m other.now keep_duplicates dest.old result dest.new }
 {
-    as_rebuilt(
-        growth::merge::merge(buf, n, other, m, keep_duplicates, dest),
-        n,
-    )
+    as_rebuilt(merge(buf, n, other, m, keep_duplicates, dest), n)
 }

@@ -1,11 +1,17 @@
 // Select, planning, lengths and fresh filters.
-ghost use Rattle.capi.specs.Planning.{PositionOf, NeededOutcome, SpecsOutcome, PlanOutcome, LengthOutcome, FreshOutcome};
+ghost use Rattle.std.specs.Prelude.{◌≡◌};
+ghost use Rattle.layout.specs.Refusals.{number};
+ghost use Rattle.capi.specs.Planning.{specs_of, plan_of, PositionOf, NeededOutcome, SpecsOutcome, PlanOutcome, LengthOutcome, FreshOutcome};
+ghost use Rattle.capi.specs.Reading.{counted_of};
 
-use bits::select::Nth;
-use layout::fresh::Made;
+use crate::growing::as_rebuilt;
+use bits::bit::pow2;
+use bits::select::select;
+use layout::fresh::fresh;
 use layout::numbers::Numbers;
-use layout::planning::{Needed, Planned, Specified};
-use layout::shape::{Shape, Shaped};
+use layout::planning::{FilterSpecs, filter_specs, needed_qbits, plan_resizeable};
+use layout::refusal::Refusal;
+use layout::shape::Shape;
 
 // A refusal's number, or 0 and a value.
 #[repr(C)]
@@ -47,33 +53,95 @@ pub struct Changed {
     pub numbers: Numbers,
 }
 
+// The rules' number of a refusal.
+pub fn number_of(refusal: Refusal) -> u64
+    ensures { result ≡ number refusal }
+{
+    u64::from(u8::from(refusal))
+}
+
+// The value, or the number.
+impl From<Result<u64, Refusal>> for Outcome {
+    ghost from_gives = { λ answer result. result ≡ counted_of answer };
+
+    fn from(answer: Result<u64, Refusal>) -> Outcome {
+        match answer {
+            Ok(value) => Outcome { number: 0, value },
+            Err(refusal) => Outcome {
+                number: number_of(refusal),
+                value: 0,
+            },
+        }
+    }
+}
+
+// What a filter comes to, or the number.
+impl From<Result<FilterSpecs, Refusal>> for Specs {
+    ghost from_gives = { λ answer result. result ≡ specs_of answer };
+
+    fn from(answer: Result<FilterSpecs, Refusal>) -> Specs {
+        match answer {
+            Ok(specs) => Specs {
+                number: 0,
+                max_capacity: specs.max_capacity,
+                max_error_ratio: specs.max_error_ratio,
+                bits_per_item: specs.bits_per_item,
+                memory_bytes_min: specs.memory_bytes_min,
+                memory_bytes_max: specs.memory_bytes_max,
+                fingerprint_bits: u64::from(specs.fingerprint_bits),
+            },
+            Err(refusal) => Specs {
+                number: number_of(refusal),
+                max_capacity: 0,
+                max_error_ratio: 0.0,
+                bits_per_item: 0.0,
+                memory_bytes_min: 0,
+                memory_bytes_max: 0,
+                fingerprint_bits: 0,
+            },
+        }
+    }
+}
+
+// The widths planned, or the number.
+impl From<Result<(Shape, u8), Refusal>> for Plan {
+    ghost from_gives = { λ answer result. result ≡ plan_of answer };
+
+    fn from(answer: Result<(Shape, u8), Refusal>) -> Plan {
+        match answer {
+            Ok((shape, max_qbits)) => Plan {
+                number: 0,
+                qbits: shape.qbits,
+                rbits: shape.rbits,
+                max_qbits,
+            },
+            Err(refusal) => Plan {
+                number: number_of(refusal),
+                qbits: 0,
+                rbits: 0,
+                max_qbits: 0,
+            },
+        }
+    }
+}
+
 // The position of the n-th one, or 64 for none.
 #[unsafe(no_mangle)]
 pub extern "C" fn strumblay_select(x: u64, n: u64) -> u64
     ensures { PositionOf x n result }
 {
-    let Nth::At(p) = bits::select::select(x, n) else {
-        return 64;
-    };
-    p
+    select(x, n).unwrap_or(64)
 }
 
 // The slots for a capacity.
+#[tactic(auto, using(theory::specs::plan::Needed::needed_high))]
 #[unsafe(no_mangle)]
 pub extern "C" fn strumblay_slots_for(capacity: u64) -> Outcome
     ensures { NeededOutcome capacity result }
 {
-    let needed = layout::planning::needed_qbits(capacity);
-    match needed {
-        Needed::Qbits(q) => Outcome {
-            number: 0,
-            value: bits::bit::pow2(q as u64),
-        },
-        Needed::Refused(k) => Outcome {
-            number: k as u64,
-            value: 0,
-        },
-    }
+    needed_qbits(capacity)
+        .map(|qbits| pow2(u64::from(qbits)))
+        .into()
 }
 
 // What a filter for a capacity and a rate comes to.
@@ -81,27 +149,7 @@ pub extern "C" fn strumblay_slots_for(capacity: u64) -> Outcome
 pub extern "C" fn strumblay_filter_specs(capacity: u64, rate: f64) -> Specs
     ensures { SpecsOutcome capacity rate result }
 {
-    let specified = layout::planning::filter_specs(capacity, rate);
-    match specified {
-        Specified::Specs(s) => Specs {
-            number: 0,
-            max_capacity: s.max_capacity,
-            max_error_ratio: s.max_error_ratio,
-            bits_per_item: s.bits_per_item,
-            memory_bytes_min: s.memory_bytes_min,
-            memory_bytes_max: s.memory_bytes_max,
-            fingerprint_bits: s.fingerprint_bits as u64,
-        },
-        Specified::Refused(k) => Specs {
-            number: k as u64,
-            max_capacity: 0,
-            max_error_ratio: 0.0,
-            bits_per_item: 0.0,
-            memory_bytes_min: 0,
-            memory_bytes_max: 0,
-            fingerprint_bits: 0,
-        },
-    }
+    filter_specs(capacity, rate).into()
 }
 
 // The widths for a filter that starts with one capacity and can grow to another.
@@ -109,39 +157,18 @@ pub extern "C" fn strumblay_filter_specs(capacity: u64, rate: f64) -> Specs
 pub extern "C" fn strumblay_plan(initial: u64, most: u64, rate: f64) -> Plan
     ensures { PlanOutcome initial most rate result }
 {
-    let planned = layout::planning::plan_resizeable(initial, most, rate);
-    match planned {
-        Planned::Widths(shape, max_qbits) => Plan {
-            number: 0,
-            qbits: shape.qbits,
-            rbits: shape.rbits,
-            max_qbits,
-        },
-        Planned::Refused(k) => Plan {
-            number: k as u64,
-            qbits: 0,
-            rbits: 0,
-            max_qbits: 0,
-        },
-    }
+    plan_resizeable(initial, most, rate).into()
 }
 
 // The bytes of a buffer of these widths.
+#[tactic(auto, using(theory::specs::refusals::ByNumber::none_widths))]
 #[unsafe(no_mangle)]
 pub extern "C" fn strumblay_buffer_len(qbits: u8, rbits: u8) -> Outcome
     ensures { LengthOutcome qbits rbits result }
 {
-    let shaped = Shape::new(qbits, rbits);
-    match shaped {
-        Shaped::Of(shape) => Outcome {
-            number: 0,
-            value: shape.buffer_len() as u64,
-        },
-        Shaped::Refused(k) => Outcome {
-            number: k as u64,
-            value: 0,
-        },
-    }
+    Shape::new(qbits, rbits)
+        .map(|shape| shape.buffer_len() as u64)
+        .into()
 }
 
 // An empty filter of these widths and this family in a lent buffer.
@@ -155,17 +182,8 @@ pub extern "C" fn strumblay_fresh(
 ) -> Changed
     ensures { FreshOutcome buf.old qbits rbits max_qbits family result buf.new }
 {
-    let made = layout::fresh::fresh(buf, qbits, rbits, max_qbits, family);
-    match made {
-        Made::Fresh(n) => Changed {
-            number: 0,
-            answer: 0,
-            numbers: n,
-        },
-        Made::Refused(k) => Changed {
-            number: k as u64,
-            answer: 0,
-            numbers: Numbers::empty(qbits, rbits, max_qbits, family),
-        },
-    }
+    as_rebuilt(
+        fresh(buf, qbits, rbits, max_qbits, family),
+        Numbers::empty(qbits, rbits, max_qbits, family),
+    )
 }

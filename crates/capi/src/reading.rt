@@ -1,12 +1,16 @@
 // The check, lookups and counts.
-ghost use Rattle.capi.specs.Reading.{CheckOutcome, ContainsOutcome, ContainsQuickOutcome, CountOutcome, CountQuickOutcome};
 ghost use Rattle.std.specs.Prelude.{◌≡◌};
-ghost use Rattle.capi.specs.Reading.{record_of, OfAny, looked_of, counted_of};
+ghost use Rattle.capi.specs.Reading.{CheckOutcome, ContainsOutcome, ContainsQuickOutcome, CountOutcome, CountQuickOutcome};
+ghost use Rattle.capi.specs.Reading.{record_of, OfAny, looked_of};
 
-use crate::planning::Outcome;
-use filter::contains::{Counting, Lookup};
-use layout::check::Verdict;
+use crate::planning::{Outcome, number_of};
+use filter::contains::{
+    contains_fingerprint, contains_fingerprint_quick, count_fingerprint, count_fingerprint_quick,
+};
+use filter::lookup::Lookup;
+use layout::check::check;
 use layout::numbers::Numbers;
+use layout::refusal::Refusal;
 
 // A record without its family, which no reading asks for: small enough that C passes it in registers. In C it is strumblay_sizes, and Numbers are strumblay_numbers.
 #[repr(C)]
@@ -18,12 +22,12 @@ pub struct Sizes {
     pub max_qbits: u8,
 }
 
-impl Sizes {
-    // The record of these sizes and family 0.
-    pub fn numbers(self) -> Numbers
-        ensures { result ≡ record_of self 0 }
-    {
-        Numbers::empty(self.qbits, self.rbits, self.max_qbits, 0).with_len(self.len)
+// The record of these sizes and family 0.
+impl From<Sizes> for Numbers {
+    ghost from_gives = { λ sizes result. result ≡ record_of sizes 0 };
+
+    fn from(sizes: Sizes) -> Numbers {
+        Numbers::empty(sizes.qbits, sizes.rbits, sizes.max_qbits, 0).with_len(sizes.len)
     }
 }
 
@@ -37,41 +41,27 @@ pub struct Looked {
 }
 
 // Held or absent with the remainders compared, or the number.
-fn as_looked(lookup: Lookup) -> Looked
-    ensures { result ≡ looked_of lookup }
-{
-    match lookup {
-        Lookup::Held(k) => Looked {
-            number: 0,
-            held: 1,
-            compared: k,
-        },
-        Lookup::Absent(k) => Looked {
-            number: 0,
-            held: 0,
-            compared: k,
-        },
-        Lookup::Refused(k) => Looked {
-            number: k as u64,
-            held: 0,
-            compared: 0,
-        },
-    }
-}
+impl From<Result<Lookup, Refusal>> for Looked {
+    ghost from_gives = { λ answer result. result ≡ looked_of answer };
 
-// How often, or the number.
-fn as_counted(counting: Counting) -> Outcome
-    ensures { result ≡ counted_of counting }
-{
-    match counting {
-        Counting::Copies(m) => Outcome {
-            number: 0,
-            value: m,
-        },
-        Counting::Refused(k) => Outcome {
-            number: k as u64,
-            value: 0,
-        },
+    fn from(answer: Result<Lookup, Refusal>) -> Looked {
+        match answer {
+            Ok(Lookup::Held(compared)) => Looked {
+                number: 0,
+                held: 1,
+                compared,
+            },
+            Ok(Lookup::Absent(compared)) => Looked {
+                number: 0,
+                held: 0,
+                compared,
+            },
+            Err(refusal) => Looked {
+                number: number_of(refusal),
+                held: 0,
+                compared: 0,
+            },
+        }
     }
 }
 
@@ -80,10 +70,9 @@ fn as_counted(counting: Counting) -> Outcome
 pub extern "C" fn strumblay_check(buf: &[u8], n: Sizes) -> u64
     ensures { OfAny n (λ m. CheckOutcome m buf.now result) }
 {
-    let verdict = layout::check::check(buf, n.numbers());
-    match verdict {
-        Verdict::Sound => 0,
-        Verdict::Refused(k) => k as u64,
+    match check(buf, n.into()) {
+        Ok(()) => 0,
+        Err(refusal) => number_of(refusal),
     }
 }
 
@@ -92,7 +81,7 @@ pub extern "C" fn strumblay_check(buf: &[u8], n: Sizes) -> u64
 pub extern "C" fn strumblay_contains(buf: &[u8], n: Sizes, hash: u64) -> Looked
     ensures { OfAny n (λ m. ContainsOutcome m buf.now hash result) }
 {
-    as_looked(filter::contains::contains_fingerprint(buf, n.numbers(), hash))
+    contains_fingerprint(buf, n.into(), hash).into()
 }
 
 // The same after asking 1 to 5 alone.
@@ -100,7 +89,7 @@ pub extern "C" fn strumblay_contains(buf: &[u8], n: Sizes, hash: u64) -> Looked
 pub extern "C" fn strumblay_contains_quick(buf: &[u8], n: Sizes, hash: u64) -> Looked
     ensures { OfAny n (λ m. ContainsQuickOutcome m buf.now hash result) }
 {
-    as_looked(filter::contains::contains_fingerprint_quick(buf, n.numbers(), hash))
+    contains_fingerprint_quick(buf, n.into(), hash).into()
 }
 
 // How often the fingerprint of the hash is held.
@@ -108,7 +97,7 @@ pub extern "C" fn strumblay_contains_quick(buf: &[u8], n: Sizes, hash: u64) -> L
 pub extern "C" fn strumblay_count(buf: &[u8], n: Sizes, hash: u64) -> Outcome
     ensures { OfAny n (λ m. CountOutcome m buf.now hash result) }
 {
-    as_counted(filter::contains::count_fingerprint(buf, n.numbers(), hash))
+    count_fingerprint(buf, n.into(), hash).into()
 }
 
 // The same after asking 1 to 5 alone.
@@ -116,5 +105,5 @@ pub extern "C" fn strumblay_count(buf: &[u8], n: Sizes, hash: u64) -> Outcome
 pub extern "C" fn strumblay_count_quick(buf: &[u8], n: Sizes, hash: u64) -> Outcome
     ensures { OfAny n (λ m. CountQuickOutcome m buf.now hash result) }
 {
-    as_counted(filter::contains::count_fingerprint_quick(buf, n.numbers(), hash))
+    count_fingerprint_quick(buf, n.into(), hash).into()
 }

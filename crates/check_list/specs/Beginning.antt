@@ -1,5 +1,5 @@
 -- The text by what a listing's beginning answers, which is checked as the text is. Assumes nothing.
-use Rattle.std.specs.Prelude.{ℕ, ◌<◌, ◌≡◌, ◌⊎◌, List}
+use Rattle.std.specs.Prelude.{ℕ, ◌<◌, ◌≡◌, ◌⊎◌, List, Ok, Err}
 use Rattle.std.proofs.Common.{ap, ◌∙◌, inl, inr, arith, eq-zero-or-pos}
 use Rattle.theory.specs.Shape.{slots}
 use Rattle.theory.specs.Sound.{Checked}
@@ -9,7 +9,8 @@ use Rattle.theory.specs.program.TextByDue.{report_few}
 use Rattle.theory.proofs.program.TextByDue.{report_checked}
 use Rattle.layout.specs.declared.numbers.Numbers.{Numbers}
 use Rattle.filter.specs.declared.listing.Place.{Place}
-use Rattle.filter.specs.declared.listing.Begun.TheVariants as begun
+use Rattle.layout.specs.declared.refusal.Refusal.{Refusal}
+use Rattle.layout.specs.Refusals.{number}
 use Rattle.layout.specs.Records.{lowest_due, SoundOf}
 use Rattle.filter.specs.Listing.{Begins}
 use Rattle.filter.specs.Steps.{begun_at}
@@ -19,17 +20,17 @@ module _ (s : List ℕ) (n : Numbers) (b : List ℕ) (is : n ≡ numbers_of s) (
   text : Checked n.qbits n.rbits n.len n.max_qbits b (λ k. report_of s ≡ refused k) (λ l. report_of s ≡ sound n.len l)
   text = rw (is, from) (report_checked s none)
 
-  pub text_refused : (k : ℕ) → Begins n b (begun.Refused k) → report_of s ≡ refused k
+  pub text_refused : (k : Refusal) → Begins n b (Err k) → report_of s ≡ refused (number k)
   text_refused k a = go (eq-zero-or-pos (lowest_due n b)) (sound_dec n.qbits n.rbits n.len n.max_qbits b)
     where
-      go : (lowest_due n b ≡ 0) ⊎ (0 < lowest_due n b) → Dec (SoundOf n b) → report_of s ≡ refused k
+      go : (lowest_due n b ≡ 0) ⊎ (0 < lowest_due n b) → Dec (SoundOf n b) → report_of s ≡ refused (number k)
       go (inr d) y =
           let f = a.early d in
-          let g : lowest_due n b ≡ k = cc in
+          let g : lowest_due n b ≡ number k = cc in
           text.early d ∙ ap refused g
       go (inl e) (no y) =
           let f = a.damaged e y in
-          let g : 6 ≡ k = cc in
+          let g : 6 ≡ number k = cc in
           text.damaged e y ∙ ap refused g
       go (inl e) (yes y) =
           let f = a.sound e y.held y.holds in
@@ -43,7 +44,7 @@ module _ (s : List ℕ) (n : Numbers) (b : List ℕ) (is : n ≡ numbers_of s) (
   text_few h = rw is (report_few s none (rw (is, from) at h))
 
 -- a beginning that gave a place
-pub begun_ready : (n : Numbers) (b : List ℕ) (p : Place) → Begins n b (begun.At p) → Ready n b p
+pub begun_ready : (n : Numbers) (b : List ℕ) (p : Place) → Begins n b (Ok p) → Ready n b p
 begun_ready n b p a =
     let y = begun_at n b p a in
     record { sound = record { none = y.2; held = y.0; holds = y.1 }; first = y.3 }

@@ -14,6 +14,7 @@ mod text;
 fn read_full(input: &mut impl Read, buffer: &mut [u8]) -> usize
     ensures { result ≤ length buffer.new }
 {
+    // Kept: no method of std says how many bytes came before a read that fails.
     let mut size = 0;
     while size < buffer.len() {
         let count = input.read(&mut buffer[size..]).unwrap_or(0);

@@ -4,13 +4,15 @@ ghost use Rattle.theory.specs.Text.{lines};
 ghost use Rattle.theory.specs.Report.{header_bytes, mark_due, header_due, refused, sound, report_of};
 ghost use Rattle.theory.specs.program.Enough.{enough};
 ghost use Rattle.layout.specs.Records.{SoundOf};
+ghost use Rattle.layout.specs.Refusals.{number, Asked};
 ghost use Rattle.check_list.specs.Written.{Written};
 ghost use Rattle.check_list.specs.Steps.{numbers_of, PutStep, Ready};
 
 use crate::text::{put_headline, put_line};
-use filter::listing::{Begun, Place, Step, begin, step_from};
+use filter::listing::{Place, begin, step_from};
 use layout::numbers::Numbers;
-use layout::shape::{Shape, Shaped};
+use layout::refusal::Refusal;
+use layout::shape::Shape;
 
 // The largest qbits that the program takes; the sizes below follow from it.
 pub const MAX_QBITS: u8 = 9;
@@ -34,20 +36,15 @@ pub fn input_room() -> [u8; INPUT]
     [0; INPUT]
 }
 
-// Number 13, if the header is cut short or its mark is another, or 0.
-fn mark_due(input: &[u8]) -> u8
-    ensures { result ≡ mark_due input.now }
+// Number 13, if the header is cut short or its mark is another.
+#[tactic(auto, using(theory::specs::refusals::ProgramAsks::mark_short, theory::specs::refusals::ProgramAsks::mark_first, theory::specs::refusals::ProgramAsks::mark_second, theory::specs::refusals::ProgramAsks::mark_none))]
+fn mark_due(input: &[u8]) -> Result<(), Refusal>
+    ensures { Asked (mark_due input.now) result }
 {
-    if input.len() < HEADER {
-        return 13;
+    if input.len() < HEADER || input[0] != 0x51 || input[1] != 0x46 {
+        return Err(Refusal::NoList);
     }
-    if input[0] != 0x51 {
-        return 13;
-    }
-    if input[1] != 0x46 {
-        return 13;
-    }
-    0
+    Ok(())
 }
 
 // The numbers in front of the buffer.
@@ -60,30 +57,25 @@ fn numbers_of(input: &[u8]) -> Numbers
     Numbers::empty(input[10], input[11], input[12], family).with_len(len)
 }
 
-// The first of 13, 1 and 14 that is due, or 0.
-fn header_due(input: &[u8]) -> u8
-    ensures { result ≡ header_due input.now }
+// The first of 13, 1 and 14 that is due.
+fn header_due(input: &[u8]) -> Result<(), Refusal>
+    ensures { Asked (header_due input.now) result }
 {
-    let due = mark_due(input);
-    if 0 < due {
-        return due;
-    }
+    mark_due(input)?;
     let n = numbers_of(input);
-    let Shaped::Of(shape) = Shape::new(n.qbits, n.rbits) else {
-        return 1;
-    };
+    let shape = Shape::new(n.qbits, n.rbits)?;
     if MAX_QBITS < shape.qbits {
-        return 14;
+        return Err(Refusal::TooLarge);
     }
-    0
+    Ok(())
 }
 
 // The line of a refusal.
-fn put_refused(out: &mut [u8], number: u8) -> usize
+fn put_refused(out: &mut [u8], refusal: Refusal) -> usize
     requires { 32 ≤ length out.old }
-    ensures { Written (refused number) out.old out.new result }
+    ensures { Written (refused (number refusal)) out.old out.new result }
 {
-    put_headline(out, b"refused", number as u64)
+    put_headline(out, b"refused", u64::from(u8::from(refusal)))
 }
 
 // The line of the fingerprint at a place, and the place behind it.
@@ -92,8 +84,7 @@ fn put_step(out: &mut [u8], buf: &[u8], n: Numbers, place: Place) -> Place
     ensures { PutStep n buf.now place out.old out.new result }
 {
     let stepped = step_from(buf, n, place);
-    let step = stepped.step;
-    let Step::Fingerprint(f) = step else {
+    let Ok(Some(f)) = stepped.step else {
         return stepped.place;
     };
     put_line(out, f);
@@ -105,13 +96,12 @@ fn put_lines(out: &mut [u8], buf: &[u8], n: Numbers, first: Place) -> usize
     requires { (Ready n buf.now first) × (17 * n.len ≤ length out.old) }
     ensures { (h : SoundOf n buf.now) → Written (lines h.held) out.old out.new result }
 {
+    let count = n.len as usize;
     let mut place = first;
-    let mut at = 0;
-    while 0 < place.remaining {
-        place = put_step(&mut out[at..], buf, n, place);
-        at += 17;
+    for k in 0..count {
+        place = put_step(&mut out[17 * k..], buf, n, place);
     }
-    at
+    17 * count
 }
 
 // The line of a sound filter, and a line for each fingerprint.
@@ -127,15 +117,13 @@ fn put_sound(out: &mut [u8], buf: &[u8], n: Numbers, first: Place) -> usize
 pub fn report(input: &[u8], out: &mut [u8; TEXT]) -> usize
     ensures { Written (report_of input.now) out.old out.new result }
 {
-    let due = header_due(input);
-    if 0 < due {
-        return put_refused(out, due);
+    if let Err(refusal) = header_due(input) {
+        return put_refused(out, refusal);
     }
     let n = numbers_of(input);
     let buf = &input[HEADER..];
-    let begun = begin(buf, n);
-    match begun {
-        Begun::Refused(number) => put_refused(out, number),
-        Begun::At(place) => put_sound(out, buf, n, place),
+    match begin(buf, n) {
+        Err(refusal) => put_refused(out, refusal),
+        Ok(place) => put_sound(out, buf, n, place),
     }
 }

@@ -8,15 +8,12 @@ fn put_bytes(out: &mut [u8], text: &[u8]) -> usize
     requires { length text.now ≤ length out.old }
     ensures { Written text.now out.old out.new result }
 {
-    let mut i = 0;
-    while i < text.len() {
-        out[i] = text[i];
-        i += 1;
-    }
-    i
+    out[..text.len()].copy_from_slice(text);
+    text.len()
 }
 
 // A digit: 0 to 9, then a to f.
+#[tactic(auto, using(theory::specs::program::Numerals::digit_low, theory::specs::program::Numerals::digit_high))]
 fn digit(d: u64) -> u8
     requires { d < 16 }
     ensures { result ≡ digit_of d }
@@ -60,11 +57,9 @@ pub fn put_line(out: &mut [u8], f: u64) -> usize
     requires { 17 ≤ length out.old }
     ensures { Written (line f) out.old out.new result }
 {
-    let mut i = 0;
-    while i < 16 {
+    for i in 0..16 {
         out[i] = digit((f >> (60 - 4 * i)) % 16);
-        i += 1;
     }
-    out[i] = b'\n';
-    i + 1
+    out[16] = b'\n';
+    17
 }

@@ -3,9 +3,10 @@
 // lists the calls. A test driver promises nothing of its own; it is proved safe, and that it ends.
 #![tactic(auto)]
 
-use script::Call;
-use state::State;
+use script::{Call, Kind};
+use state::{Lent, State};
 use std::io;
+use std::mem::swap;
 
 mod changing;
 mod listing;
@@ -22,61 +23,40 @@ pub const ROOM: usize = 4096;
 // More lines than any list has.
 const LINES: u64 = 100000;
 
-// `o` the first two buffers change places, `d` the first and the last.
+// Two buffers change places, and their records with them.
 fn exchange(
     rt: &impl Print,
-    call: Call,
-    state: State,
-    own: &mut [u8; ROOM],
-    other: &mut [u8; ROOM],
-    dest: &mut [u8; ROOM],
-) -> io::Result<State> {
-    if call.kind == b'o' {
-        state::swap(rt, own, other)?;
-        return Ok(state.other_first());
-    }
-    state::swap(rt, own, dest)?;
-    Ok(state.dest_first())
+    one: &mut Lent,
+    first: &mut [u8; ROOM],
+    other: &mut Lent,
+    second: &mut [u8; ROOM],
+) -> io::Result<()> {
+    swap(one, other);
+    swap(first, second);
+    print!(rt; "swapped")
 }
 
 // One call and its line.
 fn run(
     rt: &impl Print,
     call: Call,
-    state: State,
+    state: &mut State,
     own: &mut [u8; ROOM],
     other: &mut [u8; ROOM],
     dest: &mut [u8; ROOM],
-) -> io::Result<State> {
-    let kind = call.kind;
-    let after = match kind {
-        b'e' | b'q' | b't' | b'w' => {
-            planning::answer(rt, call)?;
-            state
-        }
-        b'k' | b'c' | b'C' | b'n' | b'N' => {
-            reading::answer(rt, call, state.own, own)?;
-            state
-        }
-        b'l' | b's' | b'S' => {
-            let place = listing::answer(rt, call, state.own, own, state.place)?;
-            state.with_place(place)
-        }
-        b'f' | b'i' | b'I' | b'm' | b'M' | b'a' | b'x' => {
-            state.with_own(changing::answer(rt, call, state.own, own)?)
-        }
-        b'b' => {
-            state::damage(call, own);
-            state.with_own(changing::answer(rt, call, state.own, own)?)
-        }
-        b'g' => state.with_dest(rebuilding::grow(rt, call, state, own, dest)?),
-        b'p' | b'P' => rebuilding::spare(rt, call, state, own, dest)?,
-        b'j' => state.with_dest(rebuilding::merge(rt, call, state, own, other, dest)?),
-        b'r' => state.with_own(state::record(rt, call, state.own)?),
-        b'o' | b'd' => exchange(rt, call, state, own, other, dest)?,
-        _ => state,
-    };
-    Ok(after)
+) -> io::Result<()> {
+    match call.kind {
+        Kind::Planning(ask) => planning::answer(rt, ask, call)?,
+        Kind::Reading(ask) => reading::answer(rt, ask, call, state.own, own)?,
+        Kind::Listing(ask) => state.place = listing::answer(rt, ask, state.own, own, state.place)?,
+        Kind::Changing(ask) => changing::answer(rt, ask, call, &mut state.own, own)?,
+        Kind::Rebuilding(ask) => rebuilding::answer(rt, ask, call, state, own, other, dest)?,
+        Kind::Record => state::record(rt, call, &mut state.own)?,
+        Kind::OtherFirst => exchange(rt, &mut state.own, own, &mut state.other, other)?,
+        Kind::DestFirst => exchange(rt, &mut state.own, own, &mut state.dest, dest)?,
+        Kind::Unknown => {}
+    }
+    println!(rt)
 }
 
 // Call by call until the list ends.
@@ -86,15 +66,11 @@ fn main(rt: HostRuntime) -> io::Result<()> {
     let mut other = [0; ROOM];
     let mut dest = [0; ROOM];
     let mut state = State::new();
-    let mut left = LINES;
-    while 0 < left {
-        left -= 1;
-        let call = script::next(&mut input);
-        if call.kind == 0 {
+    for _ in 0..LINES {
+        let Some(call) = script::next(&mut input) else {
             break;
-        }
-        state = run(&rt, call, state, &mut own, &mut other, &mut dest)?;
-        say::end(&rt)?;
+        };
+        run(&rt, call, &mut state, &mut own, &mut other, &mut dest)?;
     }
     Ok(())
 }

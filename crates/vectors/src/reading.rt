@@ -2,67 +2,58 @@
 use crate::say;
 use crate::script::Call;
 use crate::state::{Lent, part};
-use filter::contains::{Counting, Lookup};
-use layout::check::Verdict;
+use filter::contains::{
+    contains_fingerprint, contains_fingerprint_quick, count_fingerprint, count_fingerprint_quick,
+};
+use filter::lookup::Lookup;
 use layout::numbers::Numbers;
+use layout::refusal::Refusal;
 use std::io;
+
+// The check, or a lookup or a count of a hash, which may be quick.
+#[derive(Clone, Copy)]
+pub enum Ask {
+    Check,
+    Contains,
+    ContainsQuick,
+    Count,
+    CountQuick,
+}
 
 // The check's verdict, said.
 fn check(rt: &impl Print, buf: &[u8], n: Numbers) -> io::Result<()> {
-    let verdict = layout::check::check(buf, n);
-    match verdict {
-        Verdict::Sound => say::word(rt, b"sound"),
-        Verdict::Refused(k) => say::refused(rt, k),
+    match layout::check::check(buf, n) {
+        Ok(()) => print!(rt; "sound"),
+        Err(refusal) => say::refused(rt, refusal),
     }
 }
 
 // A lookup's answer said.
-fn say_lookup(rt: &impl Print, lookup: Lookup) -> io::Result<()> {
+fn say_lookup(rt: &impl Print, lookup: Result<Lookup, Refusal>) -> io::Result<()> {
     match lookup {
-        Lookup::Held(k) => {
-            say::word(rt, b"held")?;
-            say::number(rt, k)
-        }
-        Lookup::Absent(k) => {
-            say::word(rt, b"absent")?;
-            say::number(rt, k)
-        }
-        Lookup::Refused(k) => say::refused(rt, k),
+        Ok(Lookup::Held(k)) => print!(rt; "held {k}"),
+        Ok(Lookup::Absent(k)) => print!(rt; "absent {k}"),
+        Err(refusal) => say::refused(rt, refusal),
     }
 }
 
 // A count's answer said.
-fn say_count(rt: &impl Print, counting: Counting) -> io::Result<()> {
-    match counting {
-        Counting::Copies(m) => {
-            say::word(rt, b"copies")?;
-            say::number(rt, m)
-        }
-        Counting::Refused(k) => say::refused(rt, k),
+fn say_count(rt: &impl Print, count: Result<u64, Refusal>) -> io::Result<()> {
+    match count {
+        Ok(m) => print!(rt; "copies {m}"),
+        Err(refusal) => say::refused(rt, refusal),
     }
 }
 
-// One call on the part that is lent.
-fn ask(rt: &impl Print, call: Call, buf: &[u8], n: Numbers) -> io::Result<()> {
-    let kind = call.kind;
-    match kind {
-        b'k' => check(rt, buf, n),
-        b'c' => say_lookup(rt, filter::contains::contains_fingerprint(buf, n, call.x)),
-        b'C' => say_lookup(
-            rt,
-            filter::contains::contains_fingerprint_quick(buf, n, call.x),
-        ),
-        b'n' => say_count(rt, filter::contains::count_fingerprint(buf, n, call.x)),
-        _ => say_count(
-            rt,
-            filter::contains::count_fingerprint_quick(buf, n, call.x),
-        ),
-    }
-}
-
-// `k` check, `c` lookup, `n` count; `C` and `N` are quick.
-pub fn answer(rt: &impl Print, call: Call, lent: Lent, room: &[u8]) -> io::Result<()> {
+// One question to the part that is lent.
+pub fn answer(rt: &impl Print, ask: Ask, call: Call, lent: Lent, room: &[u8]) -> io::Result<()> {
     let n = lent.numbers;
-    let size = part(lent.size, room);
-    ask(rt, call, &room[..size], n)
+    let buf = &room[..part(lent.size, room)];
+    match ask {
+        Ask::Check => check(rt, buf, n),
+        Ask::Contains => say_lookup(rt, contains_fingerprint(buf, n, call.x)),
+        Ask::ContainsQuick => say_lookup(rt, contains_fingerprint_quick(buf, n, call.x)),
+        Ask::Count => say_count(rt, count_fingerprint(buf, n, call.x)),
+        Ask::CountQuick => say_count(rt, count_fingerprint_quick(buf, n, call.x)),
+    }
 }

@@ -3,159 +3,147 @@ use crate::say;
 use crate::script::Call;
 use crate::state::{Lent, State, part};
 use growth::holder::holder;
-use growth::rebuild::Rebuilt;
-use growth::spare::Placed;
+use growth::merge::merge;
+use growth::rebuild::rebuild_grown;
+use growth::spare::{Placed, insert_with_spare, insert_with_spare_quick};
 use layout::numbers::Numbers;
+use layout::refusal::Refusal;
 use std::io;
 
-// The record of what was rebuilt, said; after a refusal, the one before.
-fn say_rebuilt(rt: &impl Print, n: Numbers, rebuilt: Rebuilt) -> io::Result<Numbers> {
-    match rebuilt {
-        Rebuilt::Filter(after) => {
-            say::word(rt, b"filter")?;
-            say::record(rt, after)?;
-            Ok(after)
-        }
-        Rebuilt::Refused(k) => {
-            say::refused(rt, k)?;
-            Ok(n)
-        }
-    }
+// Growth, an insert with a spare, which may be quick, or a merge.
+#[derive(Clone, Copy)]
+pub enum Ask {
+    Grow,
+    InsertSpare,
+    InsertSpareQuick,
+    Merge,
 }
 
-// The destination's record afterwards, and the sum of its bytes.
-fn rebuilt_in(
+// What was rebuilt in the destination: its record, and the sum of its bytes; after a refusal, the record is the one before.
+fn say_rebuilt(
     rt: &impl Print,
-    call: Call,
-    before: Lent,
+    rebuilt: Result<Numbers, Refusal>,
+    lent: &mut Lent,
     dest: &[u8],
-    rebuilt: Rebuilt,
-) -> io::Result<Lent> {
-    let numbers = say_rebuilt(rt, before.numbers, rebuilt)?;
-    say::sum(rt, call.x, dest)?;
-    Ok(Lent {
-        numbers,
-        size: call.x,
-    })
+) -> io::Result<()> {
+    match rebuilt {
+        Ok(after) => {
+            lent.numbers = after;
+            print!(rt; "filter")?;
+            say::record(rt, after)?;
+        }
+        Err(refusal) => say::refused(rt, refusal)?,
+    }
+    say::sum(rt, lent.size, dest)
 }
 
 // `g` size of the destination.
-pub fn grow(
+fn grow(
     rt: &impl Print,
     call: Call,
-    state: State,
+    state: &mut State,
     own: &[u8],
     dest: &mut [u8],
-) -> io::Result<Lent> {
-    let lent = state.own;
-    let n = lent.numbers;
-    let size = part(lent.size, own);
+) -> io::Result<()> {
+    let buf = &own[..part(state.own.size, own)];
     let end = part(call.x, dest);
-    let rebuilt = growth::rebuild::rebuild_grown(&own[..size], n, &mut dest[..end]);
-    rebuilt_in(rt, call, state.dest, dest, rebuilt)
-}
-
-// `P` is quick.
-fn place(call: Call, buf: &mut [u8], n: Numbers, spare: &mut [u8]) -> Placed {
-    if call.kind == b'p' {
-        return growth::spare::insert_with_spare(buf, n, call.x, call.y, spare);
-    }
-    growth::spare::insert_with_spare_quick(buf, n, call.x, call.y, spare)
+    let rebuilt = rebuild_grown(buf, state.own.numbers, &mut dest[..end]);
+    state.dest.size = call.x;
+    say_rebuilt(rt, rebuilt, &mut state.dest, dest)
 }
 
 // Which buffer counts, and its record there.
-fn say_placed(rt: &impl Print, placed: Placed, state: State) -> io::Result<State> {
-    let own = state.own;
-    let dest = state.dest;
+fn say_placed(
+    rt: &impl Print,
+    placed: Result<Placed, Refusal>,
+    state: &mut State,
+) -> io::Result<()> {
     match placed {
-        Placed::InOld(m, numbers) => {
-            say::word(rt, b"old")?;
-            say::number(rt, m)?;
-            say::record(rt, numbers)?;
-            Ok(state.with_own(Lent {
-                numbers,
-                size: own.size,
-            }))
+        Ok(Placed::InOld(m, numbers)) => {
+            state.own.numbers = numbers;
+            print!(rt; "old {m}")?;
+            say::record(rt, numbers)
         }
-        Placed::InSpare(m, numbers) => {
-            say::word(rt, b"spare")?;
-            say::number(rt, m)?;
-            say::record(rt, numbers)?;
-            Ok(state.with_dest(Lent {
-                numbers,
-                size: dest.size,
-            }))
+        Ok(Placed::InSpare(m, numbers)) => {
+            state.dest.numbers = numbers;
+            print!(rt; "spare {m}")?;
+            say::record(rt, numbers)
         }
-        Placed::Refused(k) => {
-            say::refused(rt, k)?;
-            Ok(state)
-        }
+        Err(refusal) => say::refused(rt, refusal),
     }
 }
 
 // What stands in the buffer handed back: 1 in the old one, 2 in the spare.
-fn say_holder(rt: &impl Print, placed: Placed) -> io::Result<()> {
+fn say_holder(rt: &impl Print, placed: Result<Placed, Refusal>) -> io::Result<()> {
     let mut old = [1; 1];
     let mut spare = [2; 1];
-    let held = holder(&mut old, &mut spare, placed);
-    if 0 < held.len() {
-        say::small(rt, held[0])?;
+    match holder(&mut old, &mut spare, placed) {
+        [which, ..] => print!(rt; " {which}"),
+        [] => Ok(()),
     }
-    Ok(())
 }
 
 // `p` hash, max_count, size of the spare. Then the sums of both buffers, and which of two the answer hands back.
-pub fn spare(
+fn spare(
     rt: &impl Print,
+    ask: Ask,
     call: Call,
-    state: State,
+    state: &mut State,
     own: &mut [u8],
     dest: &mut [u8],
-) -> io::Result<State> {
-    let lent = state.own;
-    let n = lent.numbers;
-    let before = state.dest;
-    let numbers = before.numbers;
-    let size = part(lent.size, own);
+) -> io::Result<()> {
+    let size = part(state.own.size, own);
     let end = part(call.z, dest);
-    let placed = place(call, &mut own[..size], n, &mut dest[..end]);
-    let after = say_placed(
-        rt,
-        placed,
-        state.with_dest(Lent {
-            numbers,
-            size: call.z,
-        }),
-    )?;
-    say::sum(rt, lent.size, own)?;
-    say::sum(rt, call.z, dest)?;
-    say_holder(rt, placed)?;
-    Ok(after)
+    let (buf, room) = (&mut own[..size], &mut dest[..end]);
+    let (n, hash, most) = (state.own.numbers, call.x, call.y);
+    let placed = match ask {
+        Ask::InsertSpareQuick => insert_with_spare_quick(buf, n, hash, most, room),
+        _ => insert_with_spare(buf, n, hash, most, room),
+    };
+    state.dest.size = call.z;
+    say_placed(rt, placed, state)?;
+    say::sum(rt, state.own.size, own)?;
+    say::sum(rt, state.dest.size, dest)?;
+    say_holder(rt, placed)
 }
 
 // `j` size of the destination, whether duplicates are kept.
-pub fn merge(
+fn merged(
     rt: &impl Print,
     call: Call,
-    state: State,
+    state: &mut State,
     own: &[u8],
     other: &[u8],
     dest: &mut [u8],
-) -> io::Result<Lent> {
-    let lent = state.own;
-    let n = lent.numbers;
-    let size = part(lent.size, own);
-    let second = state.other;
-    let m = second.numbers;
-    let other_size = part(second.size, other);
+) -> io::Result<()> {
+    let first = &own[..part(state.own.size, own)];
+    let second = &other[..part(state.other.size, other)];
     let end = part(call.x, dest);
-    let rebuilt = growth::merge::merge(
-        &own[..size],
-        n,
-        &other[..other_size],
-        m,
+    let rebuilt = merge(
+        first,
+        state.own.numbers,
+        second,
+        state.other.numbers,
         call.y,
         &mut dest[..end],
     );
-    rebuilt_in(rt, call, state.dest, dest, rebuilt)
+    state.dest.size = call.x;
+    say_rebuilt(rt, rebuilt, &mut state.dest, dest)
+}
+
+// One question, and its answer in the destination or beside it.
+pub fn answer(
+    rt: &impl Print,
+    ask: Ask,
+    call: Call,
+    state: &mut State,
+    own: &mut [u8],
+    other: &[u8],
+    dest: &mut [u8],
+) -> io::Result<()> {
+    match ask {
+        Ask::Grow => grow(rt, call, state, own, dest),
+        Ask::InsertSpare | Ask::InsertSpareQuick => spare(rt, ask, call, state, own, dest),
+        Ask::Merge => merged(rt, call, state, own, other, dest),
+    }
 }

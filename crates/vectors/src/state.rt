@@ -2,7 +2,6 @@
 ghost use Rattle.std.specs.Prelude.{◌≡◌, ◌%◌, min, length};
 
 use crate::script::Call;
-use crate::{ROOM, say};
 use filter::listing::Place;
 use layout::numbers::Numbers;
 use std::io;
@@ -41,20 +40,17 @@ pub fn part(size: u64, room: &[u8]) -> usize
 }
 
 // A record by itself, of the family before it: `r` len, widths, size.
-pub fn record(rt: &impl Print, call: Call, before: Lent) -> io::Result<Lent> {
-    let n = before.numbers;
-    say::word(rt, b"record")?;
-    Ok(Lent {
-        numbers: numbers_of(call.x, call.y, n.family),
-        size: call.z,
-    })
+pub fn record(rt: &impl Print, call: Call, lent: &mut Lent) -> io::Result<()> {
+    lent.numbers = numbers_of(call.x, call.y, lent.numbers.family);
+    lent.size = call.z;
+    print!(rt; "record")
 }
 
 impl State {
     // Nothing lent, nothing listed.
     pub fn new() -> State {
         let none = Lent {
-            numbers: numbers_of(0, 0, 0),
+            numbers: Numbers::empty(0, 0, 0, 0),
             size: 0,
         };
         State {
@@ -68,89 +64,4 @@ impl State {
             },
         }
     }
-
-    // With another record of its own.
-    pub fn with_own(self, own: Lent) -> State {
-        let other = self.other;
-        let dest = self.dest;
-        let place = self.place;
-        State {
-            own,
-            other,
-            dest,
-            place,
-        }
-    }
-
-    // With another record of the destination.
-    pub fn with_dest(self, dest: Lent) -> State {
-        let own = self.own;
-        let other = self.other;
-        let place = self.place;
-        State {
-            own,
-            other,
-            dest,
-            place,
-        }
-    }
-
-    // With another place.
-    pub fn with_place(self, place: Place) -> State {
-        let own = self.own;
-        let other = self.other;
-        let dest = self.dest;
-        State {
-            own,
-            other,
-            dest,
-            place,
-        }
-    }
-
-    // The first two records have changed places.
-    pub fn other_first(self) -> State {
-        let own = self.other;
-        let other = self.own;
-        let dest = self.dest;
-        let place = self.place;
-        State {
-            own,
-            other,
-            dest,
-            place,
-        }
-    }
-
-    // The first and the last record have changed places.
-    pub fn dest_first(self) -> State {
-        let own = self.dest;
-        let other = self.other;
-        let dest = self.own;
-        let place = self.place;
-        State {
-            own,
-            other,
-            dest,
-            place,
-        }
-    }
-}
-
-// Two buffers change places.
-pub fn swap(rt: &impl Print, a: &mut [u8; ROOM], b: &mut [u8; ROOM]) -> io::Result<()> {
-    let mut i = 0;
-    while i < ROOM {
-        let kept = a[i];
-        a[i] = b[i];
-        b[i] = kept;
-        i += 1;
-    }
-    say::word(rt, b"swapped")
-}
-
-// A byte is made another.
-pub fn damage(call: Call, room: &mut [u8; ROOM]) {
-    let i = (call.x % 4096) as usize;
-    room[i] = low(call.y);
 }

@@ -1,42 +1,29 @@
 -- `check_list::report::put_lines`: a line more with each turn, for which there is room. Assumes nothing.
-use Rattle.std.proofs.Common.{suc, ◌≡◌, ap, ◌∙◌, arith}
+use Rattle.std.proofs.Common.{◌≡◌, ◌<◌, length, ap, sym, ◌∙◌, arith}
 use lib.ListN.{take}
 use lib.Seq.{take_all}
+use native.Mathlib.Numerals.{add-one}
 use Rattle.theory.specs.Text.{lines}
+use Rattle.theory.specs.program.Lines.{lines_next}
 use Rattle.theory.proofs.program.TextByDue.{same_held}
-use Rattle.filter.specs.declared.listing.Place.{Place}
-use Rattle.filter.specs.Places.{place_left}
-use Rattle.check_list.proofs.Filled.{written_none, written_as}
-use Rattle.check_list.proofs.Going.{left, behind, more, next}
+use Rattle.filter.specs.Places.{place_of}
+use Rattle.check_list.proofs.Filled.{written_none, written_as, written_count, written_more}
 use Rattle.check_list.proofs.report.put_lines.Goals as goal
 
-pub loop-place-init : goal.loop-place-init
+pub loop-k-init : goal.loop-k-init
 unfolding lines
-loop-place-init c = record {
-  sound = c.requires.0.sound;
-  k = 0;
-  some = omega arith;
-  place = c.requires.0.first;
-  text = written_none _;
-  room = omega (arith, c.requires.1, c.requires.0.sound.holds.many);
-}
+loop-k-init c h =
+    (c.requires.0.first ∙ ap (λ l. place_of c.args.n.qbits c.args.n.rbits l 0) (same_held _ _ _ _ _ c.requires.0.sound h), written_none _)
 
-pub put_step-place-requires : goal.put_step-place-requires
-put_step-place-requires c =
-    let g = c.loop-place.invariant in
-    omega (arith, behind _ _ _ _ _ _ g, more _ _ _ _ _ _ g (omega (arith, c.loop-place-test.true)))
-
-pub loop-place-smaller : goal.loop-place-smaller
-loop-place-smaller c =
-    let g = c.loop-place.invariant in
-    let t = c.put_step-place.ensures g.sound.none g.sound.held g.sound.holds g.k (omega (arith, left _ _ _ _ _ _ g, c.loop-place-test.true)) g.place in
-    omega (arith, c.loop-place-test.true, left _ _ _ _ _ _ g, ap (λ (q : Place). q.remaining) t.0, place_left c.args.n.qbits c.args.n.rbits g.sound.held (suc g.k))
-
-pub loop-place-preserved : goal.loop-place-preserved
-loop-place-preserved c = next _ _ _ _ _ _ c.loop-place.invariant (omega (arith, c.loop-place-test.true)) _ _ c.put_step-place.ensures
+pub loop-k-preserved : goal.loop-k-preserved
+loop-k-preserved c h =
+    let k = c.loop-k.k in
+    let i = c.loop-k.invariant h in
+    let more : k < length h.held = omega (arith, h.holds.many) in
+    let t = c.put_step-place.ensures h.none h.held h.holds k more i.0 in
+    (rw add-one t.0, written_count _ _ _ _ (written_as _ _ _ _ (written_more _ _ _ _ i.1 _ _ _ t.1) _ (rw add-one (sym (lines_next h.held k more)))) _ (omega arith))
 
 pub returns : goal.returns
 returns c h =
-    let g = c.loop-place.invariant in
-    let e : take g.k g.sound.held ≡ h.held = take_all g.k g.sound.held (omega (arith, left _ _ _ _ _ _ g, c.loop-place-test.false)) ∙ same_held _ _ _ _ _ g.sound h in
-    written_as _ _ _ _ g.text _ (ap lines e)
+    let e : take c.loop-k.k h.held ≡ h.held = take_all c.loop-k.k h.held (omega (arith, h.holds.many)) in
+    written_count _ _ _ _ (written_as _ _ _ _ (c.loop-k.invariant h).1 _ (ap lines e)) _ (omega arith)
