@@ -61,6 +61,7 @@ pub fn check(buf: &[u8], n: Numbers) -> Result<(), Refusal>
 }
 
 // Both filters sound, or the lowest number that is due of the first, or of the second.
+#[tactic(auto, using(crate::specs::Judging::judged_then))]
 pub fn check_both(buf: &[u8], n: Numbers, other: &[u8], m: Numbers) -> Result<(), Refusal>
     ensures { JudgedBoth n buf.now m other.now result }
 {

@@ -12,6 +12,7 @@ use layout::shape::Shape;
 use layout::slot;
 
 // A cell more with v in it at slot a: those from a to before e move on by one.
+#[tactic(auto, using(theory::specs::images::Sizes::slot_round))]
 pub fn put_in(buf: &mut [u8], shape: Shape, d: usize, w: u64, a: u64, e: u64, v: u64)
     requires { (Whole shape (length buf.old)) × (Area shape.rbits d w) × (w ≤ 58) × (a ≤ e) × (e < a + slots shape.qbits) × (e < 2 ^ 62) × (v < 2 ^ w) }
     ensures { PutIn shape.rbits d w (slots shape.qbits) (blocks shape.qbits) a e v (le buf.old) (le buf.new) }
@@ -25,6 +26,7 @@ pub fn put_in(buf: &mut [u8], shape: Shape, d: usize, w: u64, a: u64, e: u64, v:
 }
 
 // The cell at slot a taken out: those behind it up to e move back by one, and e is cleared.
+#[tactic(auto, using(theory::specs::images::Sizes::slot_round))]
 pub fn take_out(buf: &mut [u8], shape: Shape, d: usize, w: u64, a: u64, e: u64)
     requires { (Whole shape (length buf.old)) × (Area shape.rbits d w) × (w ≤ 58) × (a ≤ e) × (e < a + slots shape.qbits) × (e < 2 ^ 62) }
     ensures { TakenOut shape.rbits d w (slots shape.qbits) (blocks shape.qbits) a e (le buf.old) (le buf.new) }

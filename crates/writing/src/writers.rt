@@ -41,7 +41,7 @@ pub fn insert_fingerprint_counting(
 }
 
 // The same without the check: only numbers 1 to 5 are asked first.
-#[tactic(auto, using(crate::specs::Writing::inside_same))]
+#[tactic(auto, using(layout::specs::Judging::quick_refused, crate::specs::Writing::inside_same))]
 pub fn insert_fingerprint_counting_quick(
     buf: &mut [u8],
     n: Numbers,
@@ -75,7 +75,7 @@ pub fn remove_fingerprint(buf: &mut [u8], n: Numbers, hash: u64) -> Result<Optio
 }
 
 // The same without the check: only numbers 1 to 5 are asked first.
-#[tactic(auto, using(crate::specs::Writing::inside_same))]
+#[tactic(auto, using(layout::specs::Judging::quick_refused, crate::specs::Writing::inside_same))]
 pub fn remove_fingerprint_quick(
     buf: &mut [u8],
     n: Numbers,

@@ -6,7 +6,7 @@ use Rattle.theory.specs.plan.Needed.{needed_low, needed_high}
 use Rattle.theory.specs.refusals.PlanRefused.{capacity_due_lem, none_capacity, some_capacity, specs_ten, specs_nine, specs_none}
 use Rattle.layout.specs.Refusals.{number_some, handed_on}
 use Rattle.layout.proofs.planning.filter_specs.Goals as goal
-use Rattle.layout.proofs.planning.filter_specs.Goals.{After-specs_of, In_ok-qbits}
+use Rattle.layout.proofs.planning.filter_specs.Goals.{After-specs_of}
 
 sum : (c : After-specs_of) → c.in_ok-qbits.qbits + c.rbits_for-rbits.result ≤ 64
 sum c = omega arith

@@ -8,7 +8,7 @@ use Rattle.theory.specs.plan.Needed.{needed_high, needed_mono}
 use Rattle.theory.specs.refusals.PlanRefused.{capacity_due_lem, none_capacity, some_capacity, plan_eleven, plan_ten, plan_nine, plan_none, planned_none, planned_some}
 use Rattle.layout.specs.Refusals.{number_some, handed_on}
 use Rattle.layout.proofs.planning.plan_resizeable.Goals as goal
-use Rattle.layout.proofs.planning.plan_resizeable.Goals.{After-max_for, After-rbits_for, After-width_for-qbits, In_ok-widest}
+use Rattle.layout.proofs.planning.plan_resizeable.Goals.{After-max_for, After-rbits_for, After-width_for-qbits}
 
 -- it is no smaller than the width for the initial one
 widths : (c : After-width_for-qbits) → c.width_for-qbits.result ≤ c.in_ok-widest.widest
