@@ -4,10 +4,13 @@ use Rattle.theory.specs.Answer.{number, values, no_next}
 use Rattle.layout.specs.declared.numbers.Numbers.{Numbers}
 use Rattle.layout.specs.declared.refusal.Refusal.{Refusal}
 use Rattle.filter.specs.declared.listing.Place.{Place}
+use Rattle.filter.specs.declared.listing.Stepped.{Stepped}
 use Rattle.filter.specs.Says.{begun_says, step_says}
 use Rattle.filter.specs.Places.{Step, nowhere}
 use Rattle.filter.specs.Listing.{Begins, Listed}
 use Rattle.capi.specs.Shown.{Shown}
+use Rattle.capi.specs.Reading.{record_of}
+use Rattle.capi.specs.declared.reading.Sizes.{Sizes}
 use Rattle.capi.specs.declared.listing.First.{First}
 use Rattle.capi.specs.declared.listing.Next.{Next}
 
@@ -26,3 +29,7 @@ next_of p a =
 
 abbrev pub StepOutcome : Numbers → List ℕ → Place → Next → Type 0
 StepOutcome n s p r = Shown (Listed n s p) (λ answer. next_of answer.place answer.step) r
+
+-- whichever family the record is of
+pub listed_any : (n : Sizes) (family other : ℕ) (s : List ℕ) (p : Place) (r : Stepped) → Listed (record_of n family) s p r → Listed (record_of n other) s p r
+listed_any n family other s p r h = record { refused = h.refused; stays = h.stays; right = h.right }

@@ -29,6 +29,11 @@ verdict_of (Err e) = number_of e
 abbrev pub CheckOutcome : Numbers → List ℕ → ℕ → Type 0
 CheckOutcome n s r = Shown (Judged n s) verdict_of r
 
+-- whichever family the record is of
+pub judged_any : (n : Sizes) (family other : ℕ) (s : List ℕ) (v : Result Unit Refusal) → Judged (record_of n family) s v → Judged (record_of n other) s v
+judged_any n family other s (Ok _) h = h
+judged_any n family other s (Err e) h = h
+
 -- what a lookup says, and zeros where it is refused
 abbrev pub looked_of : Result Lookup Refusal → Looked
 looked_of a =

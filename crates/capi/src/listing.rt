@@ -83,6 +83,7 @@ pub extern "C" fn strumblay_list_begin(buf: &[u8], n: Sizes) -> First
 }
 
 // One step from a place, after asking 1 to 5.
+#[tactic(auto, using(crate::specs::Listing::listed_any, crate::specs::Shown::shown_also))]
 #[unsafe(no_mangle)]
 pub extern "C" fn strumblay_list_step(buf: &[u8], n: Sizes, place: Place) -> Next
     ensures { OfAny n (λ m. StepOutcome m buf.now place result) }

@@ -66,6 +66,7 @@ impl From<Result<Lookup, Refusal>> for Looked {
 }
 
 // 0 if sound, else the lowest of 1 to 6 that is due.
+#[tactic(auto, using(crate::specs::Reading::judged_any, crate::specs::Shown::shown_of))]
 #[unsafe(no_mangle)]
 pub extern "C" fn strumblay_check(buf: &[u8], n: Sizes) -> u64
     ensures { OfAny n (λ m. CheckOutcome m buf.now result) }
