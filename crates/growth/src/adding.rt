@@ -28,7 +28,7 @@ fn cut(shape: Shape, hash: u64) -> u64
 }
 
 // Whether none of the first k fingerprints of b is cut to f. No memory is lent for those met, so b is listed anew.
-#[tactic(auto, using(crate::specs::Counting::unmet_other, crate::specs::Counting::unmet_hit, crate::specs::Counting::passing_on, crate::specs::Counting::unmet_end))]
+#[tactic(auto, using(crate::specs::Counting::passing_none, crate::specs::Counting::unmet_other, crate::specs::Counting::unmet_hit, crate::specs::Counting::passing_on, crate::specs::Counting::unmet_end))]
 fn unmet(b: Source, shape: Shape, k: u64, f: u64) -> bool
     requires { Widths shape.qbits shape.rbits }
     ensures { Unmet b.entry shape k f result }

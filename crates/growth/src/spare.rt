@@ -14,6 +14,7 @@ pub enum Placed {
 }
 
 // The insert into a spare that has just been grown into, and so is sound.
+#[tactic(auto, using(crate::specs::Spare::put_in_spare))]
 fn put_in_spare(spare: &mut [u8], n: Numbers, hash: u64, max_count: u64) -> Result<Placed, Refusal>
     ensures { PutsInSpare n hash max_count spare.old result spare.new }
 {
@@ -36,6 +37,7 @@ fn move_to_spare(
 }
 
 // What a plain insert's answer leads to: only number 7 makes it look at the spare.
+#[tactic(auto, using(crate::specs::Spare::if_full_counted, crate::specs::Spare::if_full_refused, crate::specs::Spare::if_full_moved))]
 fn move_if_full(
     done: Result<(u64, Numbers), Refusal>,
     buf: &[u8],

@@ -10,6 +10,7 @@ use layout::shape::Shape;
 use writing::insert::{Insertion, insert_core};
 
 // One insert; the answer is how many are held then.
+#[tactic(auto, using(crate::specs::Take::put_done))]
 fn put(dest: &mut [u8], shape: Shape, len: u64, f: u64, max_count: u64) -> u64
     requires { (Whole shape (length dest.old)) × (len + 1 < 2 ^ 64) }
     ensures { Puts shape len f max_count dest.old result dest.new }
@@ -21,6 +22,7 @@ fn put(dest: &mut [u8], shape: Shape, len: u64, f: u64, max_count: u64) -> u64
 }
 
 // The same for what a step of a listing gave, if it gave one.
+#[tactic(auto, using(crate::specs::Take::put_one, crate::specs::Take::put_at_done, crate::specs::Take::put_at_refused))]
 fn put_step(
     dest: &mut [u8],
     shape: Shape,
@@ -38,6 +40,7 @@ fn put_step(
 }
 
 // All fingerprints of one list are inserted into the other, which held len; the answer is how many it holds then.
+#[tactic(auto, using(crate::specs::Take::takes_first))]
 pub fn take_in(list: Source, dest: &mut [u8], shape: Shape, len: u64, max_count: u64) -> u64
     requires { (Whole shape (length dest.old)) × (len + list.len < 2 ^ 64) }
     ensures { TakesIn list.entry.shape list.entry.buf.now list.entry.len shape dest.old len max_count result dest.new }

@@ -2,11 +2,9 @@
 use Prim.Native.Nat.{◌+◌, ◌-◌, ◌≤◌}
 use mathlib.Core.Path.{◌≡◌, ◌∙◌}
 use native.Mathlib.Omega.{arith}
-use Rattle.layout.specs.Judging.{clear_of}
 use Rattle.layout.specs.Refusals.{handed_on}
 use Rattle.theory.specs.Shape.{Widths}
 use Rattle.theory.specs.Refusal.{max_due}
-use Rattle.theory.specs.plan.Limits.{limit_fits}
 use Rattle.growth.specs.MergeEqual.{equal_seven, equal_fits, equal_twelve, equal_built}
 use Rattle.growth.proofs.merge.merge_sorted.Goals as goal
 use Rattle.growth.proofs.merge.merge_sorted.Goals.{In-Some}

@@ -2,8 +2,6 @@
 use mathlib.Core.Path.{◌≡◌, ◌∙◌}
 use native.Mathlib.Omega.{arith}
 use lib.ListN.{length}
-use Rattle.layout.specs.Judging.{clear_whole, clear_within}
-use Rattle.theory.specs.plan.Limits.{few}
 use Rattle.layout.specs.Refusals.{handed_on}
 use Rattle.growth.specs.MergeWider.{wider_seven, wider_twelve, wider_built}
 use Rattle.growth.proofs.merge.merge_wider.Goals as goal

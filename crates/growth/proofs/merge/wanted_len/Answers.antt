@@ -1,9 +1,6 @@
 -- `growth::merge::wanted_len`: the sum of lens, or the union's length and the larger len. Assumes nothing.
-use Prim.Native.Nat.{◌+◌, ◌≤◌}
 use mathlib.Core.Path.{◌≡◌}
 use native.Mathlib.Omega.{arith}
-use Rattle.layout.specs.Judging.{clear_of}
-use Rattle.theory.specs.plan.Limits.{few}
 use Rattle.growth.specs.MergeLists.{wants_sum, wants_union}
 use Rattle.growth.proofs.merge.wanted_len.Goals as goal
 
