@@ -1,5 +1,5 @@
 -- What follows of a verdict: the check's answer is one, and it is what a checked call needs. Assumes nothing.
-use Rattle.std.specs.Prelude.{Result, Ok, Err, ℕ, ◌+◌, ◌≤◌, ◌<◌, ◌≡◌, ◌≢◌, List, length}
+use Rattle.std.specs.Prelude.{Result, Ok, Err, ℕ, ◌+◌, ◌≤◌, ◌≡◌, ◌≢◌, List, length}
 use Rattle.std.proofs.Common.{sym, ap, subst, inl, inr, arith}
 use Rattle.theory.specs.Shape.{capacity, blocks}
 use Rattle.theory.specs.number.Bytes.{Bytes}

@@ -8,7 +8,7 @@ use Rattle.layout.specs.declared.numbers.Numbers.{Numbers}
 use Rattle.layout.specs.declared.refusal.Refusal.{Refusal}
 use Rattle.layout.specs.declared.shape.Shape.{Shape}
 use Rattle.layout.specs.declared.planning.FilterSpecs.{FilterSpecs}
-use Rattle.layout.specs.Refusals.{Asked, number, number_some, number_tells}
+use Rattle.layout.specs.Refusals.{Asked, number_some, number_tells}
 use Rattle.layout.specs.Shapes.{ShapedAs}
 use Rattle.layout.specs.Plans.{NeededAs, SpecsOf, SpecifiedAs, PlannedAs}
 use Rattle.layout.specs.Fresh.{MadeAs}

@@ -7,7 +7,7 @@ use Rattle.layout.proofs.check.go_on.Goals as goal
 
 pub loop-k-init : goal.loop-k-init
 unfolding steps
-loop-k-init c = (omega arith, refl, c.requires.1)
+loop-k-init c = (omega arith, refl, c.requires)
 
 pub returns-then-blocks-at : goal.returns-then-blocks-at
 returns-then-blocks-at c =

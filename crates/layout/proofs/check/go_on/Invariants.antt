@@ -7,7 +7,7 @@ use Rattle.layout.specs.Walk.{cur, Fits}
 use Rattle.layout.proofs.check.go_on.Given as goal
 
 abbrev pub invariant-loop-k : goal.invariant-loop-k
-invariant-loop-k l = (l.k ≤ l.budget) × (cur l.at ≡ steps_on l.shape.qbits l.shape.rbits l.buf l.k (cur l.initial.at)) × Fits (2 * blocks l.shape.qbits) l.at
+invariant-loop-k l = (l.k ≤ l.budget) × (cur l.at ≡ steps_on l.lent.shape.qbits l.lent.shape.rbits l.lent.buf.now l.k (cur l.initial.at)) × Fits (2 * blocks l.lent.shape.qbits) l.at
 
 abbrev pub decreases-loop-k : goal.decreases-loop-k
 decreases-loop-k l = l.budget - l.k

@@ -5,4 +5,4 @@ use Rattle.layout.proofs.check.step.block_fails.Goals as goal
 pub returns : goal.returns
 returns c =
     let a = c.args in
-    block_fails a.shape.qbits a.shape.rbits a.b a.p a.buf.now _ _ _ _ _ c.offset_byte.ensures.0 c.distance.ensures c.tail.ensures c.differs.ensures c.either.ensures
+    block_fails a.lent.now.shape.qbits a.lent.now.shape.rbits a.b a.p a.lent.now.buf.now _ _ _ _ _ c.offset_byte.ensures.0 c.distance.ensures c.tail.ensures c.differs.ensures c.either.ensures

@@ -5,4 +5,4 @@ use Rattle.layout.proofs.check.step.remainder_on.Goals as goal
 pub returns : goal.returns
 returns c =
     let a = c.args in
-    sees_remainder a.shape.qbits a.shape.rbits a.b a.buf.now _ _ _ c.around.ensures.0 c.get_remainder.ensures.0
+    sees_remainder a.lent.now.shape.qbits a.lent.now.shape.rbits a.b a.lent.now.buf.now _ _ _ c.around.ensures.0 c.get_remainder.ensures.0

@@ -9,7 +9,7 @@ use Rattle.layout.proofs.check.step.step.Goals as goal
 pub returns-then-c-blocks : goal.returns-then-c-blocks
 returns-then-c-blocks c =
     let a = c.args in (
-      step_on_first a.shape.qbits a.shape.rbits a.buf.now (cur a.c) _ _ _ (omega arith) c.occupieds.ensures c.runends.ensures c.first.ensures.0,
+      step_on_first a.lent.now.shape.qbits a.lent.now.shape.rbits a.lent.now.buf.now (cur a.c) _ _ _ (omega arith) c.occupieds.ensures c.runends.ensures c.first.ensures.0,
       record { passed = omega arith; owed = c.first.ensures.1.owed; pending = c.first.ensures.1.pending; used = c.first.ensures.1.used; bad = c.first.ensures.1.bad },
     )
 
@@ -17,9 +17,9 @@ pub returns-then-c-blocks-2 : goal.returns-then-c-blocks-2
 returns-then-c-blocks-2 c =
     let a = c.args in
     let n = c.blocks-blocks.ensures.0 in (
-      step_on_second a.shape.qbits a.shape.rbits a.buf.now (cur a.c) _ _ (omega arith) (omega arith) (ap (λ k. a.c.passed - k) n) c.second.ensures.0,
+      step_on_second a.lent.now.shape.qbits a.lent.now.shape.rbits a.lent.now.buf.now (cur a.c) _ _ (omega arith) (omega arith) (ap (λ k. a.c.passed - k) n) c.second.ensures.0,
       record { passed = omega arith; owed = c.second.ensures.1.owed; pending = c.second.ensures.1.pending; used = c.second.ensures.1.used; bad = c.second.ensures.1.bad },
     )
 
 pub returns : goal.returns
-returns c = (step_on_end c.args.shape.qbits c.args.shape.rbits c.args.buf.now (cur c.args.c) _ (omega arith) refl, c.requires.1)
+returns c = (step_on_end c.args.lent.now.shape.qbits c.args.lent.now.shape.rbits c.args.lent.now.buf.now (cur c.args.c) _ (omega arith) refl, c.requires)

@@ -8,9 +8,9 @@ use Rattle.theory.specs.number.Field.{field}
 use Rattle.theory.specs.images.Block.{tail_at}
 use Rattle.layout.proofs.check.step.tail.Goals as goal
 
-pub overflow_sub-buf : goal.overflow_sub-buf
+pub overflow_sub-lent : goal.overflow_sub-lent
 unfolding bytes
-overflow_sub-buf c = search rules
+overflow_sub-lent c = search rules
 
 pub read64-requires : goal.read64-requires
 unfolding bytes
@@ -18,4 +18,4 @@ read64-requires c = search rules
 
 pub returns : goal.returns
 unfolding tail_at bytes
-returns c = c.read64.ensures ∙ ap (λ p. field (le c.args.buf.now) p 64) (omega arith)
+returns c = c.read64.ensures ∙ ap (λ p. field (le c.args.lent.now.buf.now) p 64) (omega arith)

@@ -1,6 +1,6 @@
--- `layout::slot::runends`: a word of the block. Assumes nothing.
+-- `layout::blocks::Blocks::occupieds`: a word of the block. Assumes nothing.
 use Rattle.theory.specs.images.Block.{word_at}
-use Rattle.layout.proofs.slot.runends.Goals as goal
+use Rattle.layout.proofs.blocks.Blocks.occupieds.Goals as goal
 
 pub returns : goal.returns
 unfolding word_at

@@ -1,6 +1,6 @@
--- `layout::slot::offset_byte`: the first byte of the block. Assumes nothing.
+-- `layout::blocks::Blocks::offset_byte`: the first byte of the block. Assumes nothing.
 use Rattle.theory.specs.images.Block.{offset_at}
-use Rattle.layout.proofs.slot.offset_byte.Goals as goal
+use Rattle.layout.proofs.blocks.Blocks.offset_byte.Goals as goal
 
 pub returns : goal.returns
 unfolding offset_at
