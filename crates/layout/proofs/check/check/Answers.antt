@@ -9,7 +9,6 @@ use Rattle.layout.specs.Judging.{judged}
 use Rattle.layout.proofs.check.check.Goals as goal
 use Rattle.layout.proofs.check.check.Goals.{After-blocks-2}
 
-
 -- both rounds
 two : (c : After-blocks-2) → 2 * c.blocks-2.result ≡ blocks-of c.of-lent.result.shape.qbits + blocks-of c.of-lent.result.shape.qbits
 two c = omega (arith, c.blocks-2.ensures.0)
