@@ -1,7 +1,8 @@
 -- The buffer that holds the filter after an insert with a spare.
-use Rattle.std.specs.Prelude.{ℕ, zero, suc, List}
+use Rattle.std.specs.Prelude.{ℕ, zero, suc, List, Result}
 use Rattle.std.specs.Borrow.{MutBor}
 use Rattle.theory.specs.Answer.{Answer, gives, refuses}
+use Rattle.layout.specs.declared.refusal.Refusal.{Refusal}
 use Rattle.growth.specs.declared.spare.Placed.{Placed}
 use Rattle.growth.specs.Says.{PlacedIn, placed_says}
 
@@ -14,5 +15,5 @@ abbrev pub in_spare_of : Answer PlacedIn → ℕ
 in_spare_of (gives p) = p.in_spare
 in_spare_of (refuses k) = 0
 
-abbrev pub holder_of : Placed → MutBor (List ℕ) → MutBor (List ℕ) → MutBor (List ℕ)
+abbrev pub holder_of : Result Placed Refusal → MutBor (List ℕ) → MutBor (List ℕ) → MutBor (List ℕ)
 holder_of placed old spare = chosen (in_spare_of (placed_says placed)) old spare

@@ -13,6 +13,7 @@ pub mod MergeWider
 pub mod Merged
 pub mod Merging
 pub mod Pinned
+pub mod Reading
 pub mod Rebuilding
 pub mod Says
 pub mod Spare

@@ -1,6 +1,6 @@
 -- An insert with max_count 0 looks and does not add: where it is not refused it answers 0 and gives the record that it was given, at capacity too, and in either case every byte stays,
 -- those of a spare as well. A checked one is refused 1 to 6 and no other number, a quick one 1 to 5 and no other: it answers 0 on a damaged buffer too. Assumes nothing.
-use Rattle.std.specs.Prelude.{ℕ, ◌<◌, ◌≡◌, refl, List, length}
+use Rattle.std.specs.Prelude.{Result, ℕ, ◌<◌, ◌≡◌, refl, List, length}
 use Rattle.std.proofs.Common.{sym, ap, ◌∙◌, arith}
 use Rattle.theory.specs.Answer.{gives, refuses}
 use Rattle.theory.specs.Shape.{capacity}
@@ -8,8 +8,8 @@ use Rattle.theory.specs.Changing.{insert_due, insert_answer, inserted}
 use Rattle.theory.specs.Image.{image}
 use Rattle.theory.specs.list.RuleCases.{enough_due, enough_answer, enough_held}
 use Rattle.layout.specs.declared.numbers.Numbers.{Numbers}
+use Rattle.layout.specs.declared.refusal.Refusal.{Refusal}
 use Rattle.layout.specs.Records.{with_len, changed, lowest_due, HoldsOf, fingerprint_of, CheckedOn}
-use Rattle.writing.specs.declared.writers.Inserted.{Inserted}
 use Rattle.writing.specs.Says.{inserted_says}
 use Rattle.writing.specs.Writing.{Untouched, Insert, InsertQuick}
 use Rattle.growth.specs.declared.spare.Placed.{Placed}
@@ -38,7 +38,7 @@ module _ (n : Numbers) (hash : ℕ) (s : List ℕ) where
     same_bytes h = ap (image n.qbits n.rbits) held_same ∙ sym h.bytes
 
   -- ---- insert
-  module _ (a : Inserted) (t : List ℕ) where
+  module _ (a : Result (ℕ × Numbers) Refusal) (t : List ℕ) where
     pub insert_looks : Insert n hash 0 s a t → CheckedOn n s (λ k. (inserted_says a ≡ refuses k) × (t ≡ s)) (λ _. Untouched n s a t)
     insert_looks p = record {
       early = p.early;
@@ -53,7 +53,7 @@ module _ (n : Numbers) (hash : ℕ) (s : List ℕ) where
     insert_quick_looks p = (p.early, p.other.3 refl)
 
   -- ---- insert with a spare, d before and e afterwards
-  module _ (d : List ℕ) (a : Placed) (t e : List ℕ) where
+  module _ (d : List ℕ) (a : Result Placed Refusal) (t e : List ℕ) where
     pub insert_spare_looks : InsertSpare n hash 0 s d a t e
         → CheckedOn n s (λ k. (placed_says a ≡ refuses k) × (t ≡ s) × (e ≡ d)) (λ _. BothUntouched n s d a t e)
     insert_spare_looks p = record {

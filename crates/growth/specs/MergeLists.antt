@@ -1,7 +1,7 @@
 -- What a merge inserts, list by list, and what needs capacity. Assumes nothing.
 use Prim.Native.Nat.{ℕ, zero, suc, ◌+◌, ◌^◌, ◌<◌, max}
 use Rattle.std.specs.Prelude.{◌≡◌, refl, ◌≢◌, List, [], map}
-use Rattle.std.proofs.Common.{ap, ◌∙◌, arith}
+use Rattle.std.proofs.Common.{sym, ap, ◌∙◌, arith}
 use Rattle.std.proofs.Math.ListN.{length}
 use Rattle.std.proofs.lemmas.List.{length-map}
 use Rattle.theory.specs.Shape.{fingerprint}
@@ -15,6 +15,8 @@ use Rattle.layout.specs.declared.numbers.Numbers.{Numbers}
 use Rattle.layout.specs.declared.shape.Shape.{Shape}
 use Rattle.filter.specs.Asking.{holds_shows}
 use Rattle.filter.specs.Lookup.{Shows}
+use Rattle.growth.specs.declared.source.Source.{Source}
+use Rattle.growth.specs.Reading.{Reads, reads_shows}
 use Rattle.growth.specs.Take.{taken_in}
 use Rattle.growth.specs.Union.{United}
 use Rattle.growth.specs.Rebuilding.{taken_all}
@@ -33,14 +35,14 @@ module _ (n : Numbers) (s : List ℕ) (m : Numbers) (o : List ℕ) (e : lowest_d
   wants_sum zero k = absurd (k refl)
   wants_sum (suc keep) k = record { right = λ la lb x y. omega (arith, added_length la lb, x.many, y.many) }
 
-  pub wants_union : (keep : ℕ) → keep ≡ 0 → (a : ℕ) → United (shape_of n) s n.len (shape_of m) o m.len a → Wants n s m o keep (max a (max n.len m.len))
+  pub wants_union : (keep : ℕ) → keep ≡ 0 → (a b : Source) → Reads n s a → Reads m o b → (r : ℕ) → United a b r → Wants n s m o keep (max r (max n.len m.len))
   unfolding wanted
-  wants_union zero k a u = record {
+  wants_union zero k a b ra rb r u = record {
     right = λ la lb x y.
-        let g : a ≡ length (joined 0 la lb) = u.right la lb (shows_self la x) (shows_other lb y) x.many y.many in
+        let g : r ≡ length (joined 0 la lb) = u.right la lb (reads_shows n s a ra e la x) (reads_shows m o b rb f lb y) (x.many ∙ sym ra.len) (y.many ∙ sym rb.len) in
         omega (arith, g, x.many, y.many);
   }
-  wants_union (suc keep) k a u = absurd (omega arith)
+  wants_union (suc keep) k a b ra rb r u = absurd (omega arith)
 
 -- ---- what the inserts of a merge come to
 abbrev pub Under-width : Shape → List ℕ → Type 0

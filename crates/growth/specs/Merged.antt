@@ -1,7 +1,7 @@
 -- What follows of the promise of merge: it leaves no choice, its result is sound and of the family of both, and what that holds, fingerprint by fingerprint; and 19 is given of two
 -- families alone. Assumes nothing.
 use Prim.Native.Nat.{ℕ, zero, suc, ◌+◌, ◌-◌, ◌*◌, ◌^◌, ◌≤◌, ◌<◌, min, max}
-use Rattle.std.specs.Prelude.{◌≡◌, refl, ◌⊎◌, ◌≢◌, List, map}
+use Rattle.std.specs.Prelude.{Result, Ok, Err, ◌≡◌, refl, ◌⊎◌, ◌≢◌, List, map}
 use Rattle.std.proofs.Math.Path.{sym, ap, subst}
 use Rattle.std.proofs.Common.{◌∙◌, inl, inr, arith, eq-zero-or-pos, pow-add}
 use Rattle.std.proofs.Math.Decide.{dec_lt, ℕ_discrete}
@@ -21,10 +21,10 @@ use Rattle.theory.specs.list.StillHolding.{joined_holding, taken_holding}
 use Rattle.theory.specs.images.Sizes.{capacity_lt}
 use Rattle.theory.specs.list.Adding.{copies_kept, copies_single, copies_added, copies_once}
 use Rattle.layout.specs.declared.numbers.Numbers.{Numbers}
+use Rattle.layout.specs.declared.refusal.Refusal.{Refusal}
+use Rattle.layout.specs.declared.refusal.Refusal.TheVariants.{TwoFamilies}
 use Rattle.layout.specs.declared.shape.Shape.{Shape}
 use Rattle.layout.specs.Outcomes.{alike, apart, leaves_one, leaves_given, family_one, family_given}
-use Rattle.growth.specs.declared.rebuild.Rebuilt.{Rebuilt}
-use Rattle.growth.specs.declared.rebuild.Rebuilt.TheVariants.{Filter, Refused}
 use Rattle.growth.specs.Says.{rebuilt_says, rebuilt_tells}
 use Rattle.growth.specs.Rebuilding.{Lands, held_under}
 use Rattle.theory.specs.plan.Limits.{limit_widths, joined_within}
@@ -35,7 +35,7 @@ use Rattle.growth.specs.Merging.{qbits_for, shape_for, MergesTo, Untaken, Merges
 
 -- ---- no choice
 abbrev Outcome : Type 0
-Outcome = Rebuilt × List ℕ
+Outcome = Result Numbers Refusal × List ℕ
 
 abbrev No : List ℕ → ℕ → Outcome → Type 0
 No d k x = Untaken d x.0 x.1 k
@@ -53,7 +53,7 @@ merges_family_one n m keep la lb d x y p g =
     family_one n m (No d) (λ (z : Outcome). MergesTo n m keep la lb d z.0 z.1) x p (alike rebuilt_says rebuilt_tells) (merges_one n m keep la lb d) y g
 
 -- any two outcomes that keep the promise coincide, for all inputs
-pub merge_pinned : (n : Numbers) (s : List ℕ) (m : Numbers) (o : List ℕ) (keep : ℕ) (d : List ℕ) (a b : Rebuilt) (t u : List ℕ) → Merges n s m o keep d a t → Merges n s m o keep d b u
+pub merge_pinned : (n : Numbers) (s : List ℕ) (m : Numbers) (o : List ℕ) (keep : ℕ) (d : List ℕ) (a b : Result Numbers Refusal) (t u : List ℕ) → Merges n s m o keep d a t → Merges n s m o keep d b u
     → (a ≡ b) × (t ≡ u)
 merge_pinned n s m o keep d a b t u p g =
     apart (a, t) (b, u)
@@ -71,16 +71,16 @@ module _ (k : ℕ) (n : Numbers) (h : Shape) (l d : List ℕ) (x : Numbers) (t :
       )
 
 -- ---- a merge that is not refused
-module _ (n : Numbers) (s : List ℕ) (m : Numbers) (o : List ℕ) (keep : ℕ) (d : List ℕ) (x : Numbers) (t : List ℕ) (p : Merges n s m o keep d (Filter x) t) where
+module _ (n : Numbers) (s : List ℕ) (m : Numbers) (o : List ℕ) (keep : ℕ) (d : List ℕ) (x : Numbers) (t : List ℕ) (p : Merges n s m o keep d (Ok x) t) where
   never : (k : ℕ) → gives x ≡ refuses k → ⊥
   never k e = let z : ◌≡◌ {A = ℕ} 0 1 = cc in omega arith
 
   -- was one of two sound filters of one family
-  both : (y : SoundOf n s) × (z : SoundOf m o) × (n.family ≡ m.family) × MergesTo n m keep y.held z.held d (Filter x) t
+  both : (y : SoundOf n s) × (z : SoundOf m o) × (n.family ≡ m.family) × MergesTo n m keep y.held z.held d (Ok x) t
   both =
       let y = not_refused _ _ _ _ s _ _ p (λ k z. never k z.0) in
       let z = not_refused _ _ _ _ o _ _ y.1 (λ k z. never k z.0) in
-      let w = family_given n m (λ k (c : Rebuilt). Untaken d c t k) (λ c. MergesTo n m keep y.0.held z.0.held d c t) (Filter x) z.1 (λ z. never 19 z.0) in
+      let w = family_given n m (λ k (c : Result Numbers Refusal). Untaken d c t k) (λ c. MergesTo n m keep y.0.held z.0.held d c t) (Ok x) z.1 (λ z. never 19 z.0) in
       (y.0, z.0, w.0, w.1)
 
   module _ (la lb : List ℕ) (ha : HoldsOf n s la) (hb : HoldsOf m o lb) where
@@ -90,7 +90,7 @@ module _ (n : Numbers) (s : List ℕ) (m : Numbers) (o : List ℕ) (keep : ℕ) 
     abbrev f : lowest_due m o ≡ 0
     f = both.1.none
 
-    cases : MergesTo n m keep la lb d (Filter x) t
+    cases : MergesTo n m keep la lb d (Ok x) t
     cases = ((p.sound e la ha).sound f lb hb).same both.2
 
     under_self : Under (2 ^ width_of n) la
@@ -171,7 +171,7 @@ taken_most : (q : ℕ) (a l : List ℕ) → taken_due q a l ≤ 12
 unfolding taken_due
 taken_most q a l = one_most 12 (dec_lt (length a) (length l)) _ 0 (one_most 12 (dec_lt (capacity q) (length l)) 7 0 (omega arith) (omega arith)) (omega arith)
 
-pub nineteen : (n : Numbers) (s : List ℕ) (m : Numbers) (o : List ℕ) (keep : ℕ) (d t : List ℕ) → Merges n s m o keep d (Refused 19) t → SoundOf n s × SoundOf m o × (n.family ≢ m.family)
+pub nineteen : (n : Numbers) (s : List ℕ) (m : Numbers) (o : List ℕ) (keep : ℕ) (d t : List ℕ) → Merges n s m o keep d (Err TwoFamilies) t → SoundOf n s × SoundOf m o × (n.family ≢ m.family)
 nineteen n s m o keep d t p =
     let y = not_early _ _ _ _ s _ _ p (λ k h z. omega (arith, h, ap number z.0)) in
     let z = not_early _ _ _ _ o _ _ y.1 (λ k h z. omega (arith, h, ap number z.0)) in
@@ -184,7 +184,7 @@ nineteen n s m o keep d t p =
         go (inl z) = omega (arith, ap number (q.done z).0)
         go (inr z) = omega (arith, h, ap number (q.refused z).0)
 
-    refutes : (la lb : List ℕ) → MergesTo n m keep la lb d (Refused 19) t → Dec (width_of m < width_of n) → Dec (width_of n < width_of m) → ⊥
+    refutes : (la lb : List ℕ) → MergesTo n m keep la lb d (Err TwoFamilies) t → Dec (width_of m < width_of n) → Dec (width_of n < width_of m) → ⊥
     refutes la lb q (yes h) z = omega (arith, ap number (q.narrower h).0)
     refutes la lb q (no h) (yes z) = lands _ _ _ (else_most 12 (taken_due n.qbits la (taken keep n.qbits n.rbits la lb)) _ (taken_most _ la _) (destination_most _ _ (length d))) (q.wider z)
     refutes la lb q (no h) (no z) = lands _ _ _ (else_most 12 (joined_due n.qbits n.max_qbits (wanted keep la lb)) _ (joined_most _ _ _) (destination_most _ _ (length d))) (q.equal (omega arith))
@@ -194,7 +194,7 @@ nineteen n s m o keep d t p =
 abbrev pub Holds-as : Numbers → List ℕ → (ℕ → ℕ → Type 0) → Type 0
 Holds-as x t P = (l : List ℕ) × HoldsOf x t l × ((g : ℕ) → P g (copies g l))
 
-module _ (n : Numbers) (s : List ℕ) (m : Numbers) (o : List ℕ) (keep : ℕ) (d : List ℕ) (x : Numbers) (t : List ℕ) (p : Merges n s m o keep d (Filter x) t) (la lb : List ℕ) (ha : HoldsOf n s la) (hb : HoldsOf m o lb) where
+module _ (n : Numbers) (s : List ℕ) (m : Numbers) (o : List ℕ) (keep : ℕ) (d : List ℕ) (x : Numbers) (t : List ℕ) (p : Merges n s m o keep d (Ok x) t) (la lb : List ℕ) (ha : HoldsOf n s la) (hb : HoldsOf m o lb) where
   -- equal widths: with duplicates, multiplicities add for every fingerprint; without, holding is the union, once each
   pub merged_adds : width_of m ≡ width_of n → 0 < keep → Holds-as x t (λ g c. c ≡ copies g la + copies g lb)
   merged_adds w k = (joined keep la lb, (equal_holds n s m o keep d x t p la lb ha hb w).1, λ g. with_all keep k g)

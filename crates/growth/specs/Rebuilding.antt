@@ -1,5 +1,5 @@
 -- The promises of growth (docs/RULES.md, "Growth"), and what every rebuild into a lent destination comes to.
-use Rattle.std.specs.Prelude.{ℕ, ◌+◌, ◌-◌, ◌^◌, ◌≤◌, ◌<◌, ◌≡◌, refl, List, [], length}
+use Rattle.std.specs.Prelude.{ℕ, Result, Ok, Err, ◌+◌, ◌-◌, ◌^◌, ◌≤◌, ◌<◌, ◌≡◌, refl, List, [], length}
 use Rattle.std.proofs.Common.{sym, ap, subst, ◌∙◌, arith, pow-add}
 use Rattle.std.proofs.Math.Decide.{dec_le}
 use Rattle.theory.specs.tools.Choose.{choose_yes, choose_no}
@@ -19,16 +19,14 @@ use Rattle.layout.specs.Judging.{clear_of}
 use Rattle.theory.specs.refusals.PlanRefused.{fresh_rest, none_destination}
 use Rattle.theory.specs.images.EmptyImage.{holds_empty}
 use Rattle.layout.specs.declared.numbers.Numbers.{Numbers}
+use Rattle.layout.specs.declared.refusal.Refusal.{Refusal}
 use Rattle.layout.specs.declared.shape.Shape.{Shape}
-use Rattle.layout.specs.declared.fresh.Made.{Made}
-use Rattle.layout.specs.declared.fresh.Made.TheVariants as made
+use Rattle.layout.specs.Refusals.{number, number_some}
 use Rattle.layout.specs.Fresh.{MadeAs}
 use Rattle.layout.specs.Records.{shape_of, width_of, with_shape, lowest_due, HoldsOf, CheckedOn, Leaves}
 use Rattle.layout.specs.Outcomes.{leaves_refused, leaves_done}
 use Rattle.filter.specs.Asking.{holds_shows}
 use Rattle.filter.specs.Lookup.{Shows}
-use Rattle.growth.specs.declared.rebuild.Rebuilt.{Rebuilt}
-use Rattle.growth.specs.declared.rebuild.Rebuilt.TheVariants.{Filter, Refused}
 use Rattle.growth.specs.Says.{rebuilt_says}
 use Rattle.growth.specs.Take.{SameTail, taken_in, TakesIn}
 
@@ -47,35 +45,28 @@ grown_to n len = with_shape n (grown_shape n) len
 abbrev pub grow_due : Numbers → ℕ → ℕ
 grow_due n size = or_else (growth_due n.qbits n.max_qbits) (destination_due (n.qbits + 1) (n.rbits - 1) size)
 
-abbrev pub GrowsTo : Numbers → List ℕ → List ℕ → Rebuilt → List ℕ → Type 0
+abbrev pub GrowsTo : Numbers → List ℕ → List ℕ → Result Numbers Refusal → List ℕ → Type 0
 GrowsTo n l d a t = Lands (grow_due n (length d)) (grown_to n (length l)) l d (rebuilt_says a) t
 
-abbrev pub Grows : Numbers → List ℕ → List ℕ → Rebuilt → List ℕ → Type 0
+abbrev pub Grows : Numbers → List ℕ → List ℕ → Result Numbers Refusal → List ℕ → Type 0
 Grows n s d a t = CheckedOn n s (λ k. (rebuilt_says a ≡ refuses k) × (t ≡ d)) (λ l. GrowsTo n l d a t)
 
 -- ---- how the code comes to it
 -- a destination made empty, or 12 and as it was
-pub record Empties (q r : ℕ) (d : List ℕ) (k : ℕ) (t : List ℕ) : Type 0 where
-  pub is : k ≡ destination_due q r (length d)
-  pub made : k ≡ 0 → (t ≡ image q r []) × (length d ≡ bytes q r)
-  pub kept : 0 < k → t ≡ d
+abbrev pub Empties : ℕ → ℕ → List ℕ → Result Unit Refusal → List ℕ → Type 0
+Empties q r d (Ok _) t = (destination_due q r (length d) ≡ 0) × (t ≡ image q r []) × (length d ≡ bytes q r)
+Empties q r d (Err e) t = (destination_due q r (length d) ≡ number e) × (t ≡ d)
 
 -- what a fresh filter's answer says of it
-abbrev pub emptied : Made → ℕ
-emptied (made.Fresh n) = 0
-emptied (made.Refused k) = k
+abbrev pub emptied : Result Numbers Refusal → Result Unit Refusal
+emptied (Ok n) = Ok tt
+emptied (Err e) = Err e
 
-pub made_empties : (q r mx family : ℕ) → Widths q r → max_due q r mx ≡ 0 → (d : List ℕ) (m : Made) (t : List ℕ) → MadeAs d q r mx family m t → Empties q r d (emptied m) t
-made_empties q r mx family w e d (made.Fresh n) t h = record {
-  is = sym h.0 ∙ fresh_rest q r mx (length d) w e;
-  made = λ _. (h.2, none_destination q r (length d) (sym (fresh_rest q r mx (length d) w e) ∙ h.0));
-  kept = λ z. absurd (omega arith);
-}
-made_empties q r mx family w e d (made.Refused k) t h = record {
-  is = sym h.0 ∙ fresh_rest q r mx (length d) w e;
-  made = λ z. absurd (omega arith);
-  kept = λ _. h.2;
-}
+pub made_empties : (q r mx family : ℕ) → Widths q r → max_due q r mx ≡ 0 → (d : List ℕ) (m : Result Numbers Refusal) (t : List ℕ) → MadeAs d q r mx family m t → Empties q r d (emptied m) t
+made_empties q r mx family w e d (Ok n) t h =
+    let none = sym (fresh_rest q r mx (length d) w e) ∙ h.0 in
+    (none, h.2, none_destination q r (length d) none)
+made_empties q r mx family w e d (Err k) t h = (sym (fresh_rest q r mx (length d) w e) ∙ h.0, h.1)
 
 -- a buffer that shows l, written inside one that was an image, is the image of l
 pub lands_image : (h : Shape) → 6 ≤ h.qbits → (x l t : List ℕ) → Bytes t → length t ≡ bytes h.qbits h.rbits → SameTail h (image h.qbits h.rbits x) t → Shows h t l
@@ -129,25 +120,25 @@ pub record CanHold (n : Numbers) (h : Shape) : Type 0 where
   pub room : n.len ≤ capacity h.qbits
 
 -- the same holding at the widths h; or 12
-abbrev pub RebuildsInto : Numbers → List ℕ → Shape → List ℕ → Rebuilt → List ℕ → Type 0
+abbrev pub RebuildsInto : Numbers → List ℕ → Shape → List ℕ → Result Numbers Refusal → List ℕ → Type 0
 RebuildsInto n s h d a t = (l : List ℕ) → HoldsOf n s l → Lands (destination_due h.qbits h.rbits (length d)) (with_shape n h (length l)) l d (rebuilt_says a) t
 
 module _ (n : Numbers) (s : List ℕ) (e : lowest_due n s ≡ 0) (h : Shape) where
-  pub into_refused : (d : List ℕ) (k : ℕ) (t : List ℕ) → Empties h.qbits h.rbits d k t → 0 < k → RebuildsInto n s h d (Refused k) t
-  into_refused d k t m some = λ l w.
-      subst (λ (z : List ℕ). Lands (destination_due h.qbits h.rbits (length d)) (with_shape n h (length l)) l d (refuses k) z) (sym (m.kept some))
-      (leaves_refused _ (with_shape n h (length l)) (with_shape n h (length l)) l d k (sym m.is) some)
+  pub into_refused : (d : List ℕ) (k : Refusal) (t : List ℕ) → Empties h.qbits h.rbits d (Err k) t → RebuildsInto n s h d (Err k) t
+  into_refused d k t m = λ l w.
+      subst (λ (z : List ℕ). Lands (destination_due h.qbits h.rbits (length d)) (with_shape n h (length l)) l d (refuses (number k)) z) (sym m.1)
+      (leaves_refused _ (with_shape n h (length l)) (with_shape n h (length l)) l d (number k) m.0 (number_some k))
 
-  pub into_built : CanHold n h → (d t₀ : List ℕ) → Empties h.qbits h.rbits d 0 t₀ → (most a : ℕ) → n.len ≤ most → (t : List ℕ) → Bytes t → length t ≡ length d
-      → TakesIn (shape_of n) s n.len h t₀ 0 most a t → RebuildsInto n s h d (Filter (with_shape n h a)) t
-  into_built f d t₀ m most a reach t b size g = λ l w.
-      let from : TakesIn (shape_of n) s n.len h (image h.qbits h.rbits []) 0 most a t = subst (λ (z : List ℕ). TakesIn (shape_of n) s n.len h z 0 most a t) (m.made refl).0 g in
+  pub into_built : CanHold n h → (d t₀ : List ℕ) (u : Unit) → Empties h.qbits h.rbits d (Ok u) t₀ → (most a : ℕ) → n.len ≤ most → (t : List ℕ) → Bytes t → length t ≡ length d
+      → TakesIn (shape_of n) s n.len h t₀ 0 most a t → RebuildsInto n s h d (Ok (with_shape n h a)) t
+  into_built f d t₀ u m most a reach t b size g = λ l w.
+      let from : TakesIn (shape_of n) s n.len h (image h.qbits h.rbits []) 0 most a t = subst (λ (z : List ℕ). TakesIn (shape_of n) s n.len h z 0 most a t) m.1 g in
       let r = taken_whole n s e l w h f.widths f.sum f.room most reach a t from in
-      leaves_done _ (with_shape n h (length l)) (with_shape n h (length l)) l d (sym m.is) (with_shape n h a) (ap (with_shape n h) r.1) t
-      (lands_image h f.widths.low [] l t b (size ∙ (m.made refl).1) from.tail r.0)
+      leaves_done _ (with_shape n h (length l)) (with_shape n h (length l)) l d m.0 (with_shape n h a) (ap (with_shape n h) r.1) t
+      (lands_image h f.widths.low [] l t b (size ∙ m.2) from.tail r.0)
 
 -- ---- growth of a filter that passed 1 to 5
-abbrev pub GrowWorked : Numbers → List ℕ → List ℕ → Rebuilt → List ℕ → Type 0
+abbrev pub GrowWorked : Numbers → List ℕ → List ℕ → Result Numbers Refusal → List ℕ → Type 0
 GrowWorked n s d a t = (l : List ℕ) → HoldsOf n s l → GrowsTo n l d a t
 
 module _ (n : Numbers) (s : List ℕ) (e : lowest_due n s ≡ 0) (more : n.qbits < n.max_qbits) where
@@ -165,5 +156,5 @@ module _ (n : Numbers) (s : List ℕ) (e : lowest_due n s ≡ 0) (more : n.qbits
         omega (arith, m.2),
       )
 
-  pub grow_rebuilt : (d : List ℕ) (a : Rebuilt) (t : List ℕ) → RebuildsInto n s (grown_shape n) d a t → GrowWorked n s d a t
+  pub grow_rebuilt : (d : List ℕ) (a : Result Numbers Refusal) (t : List ℕ) → RebuildsInto n s (grown_shape n) d a t → GrowWorked n s d a t
   grow_rebuilt d a t g l w = rw (grow_twelve n (length d) more) (g l w)

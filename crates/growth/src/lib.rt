@@ -5,6 +5,7 @@ pub mod adding;
 pub mod holder;
 pub mod merge;
 pub mod rebuild;
+pub mod source;
 pub mod spare;
 pub mod take;
 pub mod union;

@@ -1,22 +1,24 @@
 // Two filters merged in a lent destination.
-ghost use Rattle.std.specs.Prelude.{◌≡◌, suc, ◌+◌, ◌-◌, ◌≤◌, length};
+ghost use Rattle.std.specs.Prelude.{◌≡◌, ◌+◌, ◌≤◌, length};
 ghost use Rattle.theory.specs.Joining.{limit};
-ghost use Rattle.theory.specs.Planning.{width_from};
 ghost use Rattle.layout.specs.Records.{lowest_due};
 ghost use Rattle.layout.specs.Whole.{Whole};
-ghost use Rattle.growth.specs.Merging.{most_of, Wants, Joins, MergesEqual, MergesWider, MergesPair, Merges};
+ghost use Rattle.growth.specs.Merging.{most_of, Wants, WidthUpTo, Joins, MergesEqual, MergesWider, MergesPair, Merges};
 
-use crate::rebuild::{Rebuilt, empty_out};
+use crate::rebuild::empty_out;
+use crate::source::Source;
 use crate::take::take_in;
 use crate::union::union_len;
 use crate::wider::wider_due;
 use bits::compare::larger;
-use layout::check::{Verdict, check_both};
+use layout::check::check_both;
 use layout::numbers::Numbers;
 use layout::planning::capacity_of;
+use layout::refusal::Refusal;
 use layout::shape::Shape;
 
 // The max_count that each insert of a merge gets.
+#[tactic(auto, using(crate::specs::Merging::most_all))]
 fn max_count_of(keep: u64) -> u64
     ensures { result ≡ most_of keep }
 {
@@ -24,6 +26,7 @@ fn max_count_of(keep: u64) -> u64
 }
 
 // What the result needs capacity for, at equal widths.
+#[tactic(auto, using(theory::specs::plan::Limits::few, layout::specs::Judging::clear_of))]
 fn wanted_len(buf: &[u8], n: Numbers, other: &[u8], m: Numbers, keep: u64) -> u64
     requires { (lowest_due n buf.now ≡ 0) × (lowest_due m other.now ≡ 0) × (m.qbits + m.rbits ≡ n.qbits + n.rbits) }
     ensures { Wants n buf.now m other.now keep result }
@@ -31,26 +34,26 @@ fn wanted_len(buf: &[u8], n: Numbers, other: &[u8], m: Numbers, keep: u64) -> u6
     if keep != 0 {
         return n.len + m.len;
     }
-    let either = union_len(buf, n.shape(), n.len, other, m.shape(), m.len);
+    let either = union_len(Source::new(buf, n), Source::new(other, m));
     larger(either, larger(n.len, m.len))
 }
 
-// The smallest qbits from the first on that has the capacity, and one past the last if none has.
-fn joined_qbits(first: u8, last: u8, wanted: u64) -> u8
+// The smallest qbits from the first to the last that has the capacity, if one has.
+#[tactic(auto, using(theory::specs::plan::Needed::width_here, theory::specs::plan::Needed::width_on, theory::specs::plan::Needed::width_past))]
+fn joined_qbits(first: u8, last: u8, wanted: u64) -> Option<u8>
     requires { (6 ≤ first) × (first ≤ last) × (last ≤ 59) }
-    ensures { (result ≡ width_from (suc (last - first)) first wanted) × (first ≤ result) }
+    ensures { WidthUpTo first last wanted result }
 {
-    let mut qbits = first;
-    while qbits <= last {
+    for qbits in first..=last {
         if wanted <= capacity_of(qbits) {
-            return qbits;
+            return Some(qbits);
         }
-        qbits += 1;
     }
-    qbits
+    None
 }
 
 // The largest qbits that the result may have.
+#[tactic(auto, using(theory::specs::plan::Limits::limit_own, theory::specs::plan::Limits::limit_max))]
 fn limit_of(n: Numbers) -> u8
     ensures { result ≡ limit n.qbits n.max_qbits }
 {
@@ -62,6 +65,7 @@ fn limit_of(n: Numbers) -> u8
 }
 
 // Both lists are taken into an empty destination.
+#[tactic(auto, using(theory::specs::plan::Limits::few))]
 fn join(
     buf: &[u8],
     n: Numbers,
@@ -75,11 +79,12 @@ fn join(
     ensures { Joins n buf.now m other.now keep shape dest.old result dest.new }
 {
     let most = max_count_of(keep);
-    let own = take_in(buf, n.shape(), n.len, dest, shape, 0, most);
-    take_in(other, m.shape(), m.len, dest, shape, own, most)
+    let own = take_in(Source::new(buf, n), dest, shape, 0, most);
+    take_in(Source::new(other, m), dest, shape, own, most)
 }
 
 // As many bits of fingerprint on both sides: copies are added up, or, without duplicates, one of each is kept. Number 7, then 12.
+#[tactic(auto, using(layout::specs::Judging::clear_of, theory::specs::plan::Limits::limit_fits))]
 fn merge_sorted(
     buf: &[u8],
     n: Numbers,
@@ -87,41 +92,25 @@ fn merge_sorted(
     m: Numbers,
     keep: u64,
     dest: &mut [u8],
-) -> Rebuilt
+) -> Result<Numbers, Refusal>
     requires { (lowest_due n buf.now ≡ 0) × (lowest_due m other.now ≡ 0) × (m.qbits + m.rbits ≡ n.qbits + n.rbits) }
     ensures { MergesEqual n buf.now m other.now keep dest.old result dest.new }
 {
     let wanted = wanted_len(buf, n, other, m, keep);
-    let last = limit_of(n);
-    let qbits = joined_qbits(n.qbits, last, wanted);
-    if last < qbits {
-        return Rebuilt::Refused(7);
-    }
+    let Some(qbits) = joined_qbits(n.qbits, limit_of(n), wanted) else {
+        return Err(Refusal::NoRoom);
+    };
     let shape = Shape {
         qbits,
         rbits: n.qbits + n.rbits - qbits,
     };
-    let due = empty_out(dest, shape, n.max_qbits);
-    if 0 < due {
-        return Rebuilt::Refused(due);
-    }
+    empty_out(dest, shape, n.max_qbits)?;
     let len = join(buf, n, other, m, keep, dest, shape);
-    Rebuilt::Filter(n.with_shape(shape, len))
-}
-
-// The destination gets what the buffer has.
-fn copy(buf: &[u8], dest: &mut [u8])
-    requires { length dest.old ≡ length buf.now }
-    ensures { dest.new ≡ buf.now }
-{
-    let mut i = 0;
-    while i < buf.len() {
-        dest[i] = buf[i];
-        i += 1;
-    }
+    Ok(n.with_shape(shape, len))
 }
 
 // Other wider: its fingerprints, cut to self's width, are added to self's; without duplicates only absent ones, once each. Number 7, then 12.
+#[tactic(auto, using(layout::specs::Judging::clear_whole, layout::specs::Judging::clear_within, theory::specs::plan::Limits::few))]
 fn merge_wider(
     buf: &[u8],
     n: Numbers,
@@ -129,26 +118,23 @@ fn merge_wider(
     m: Numbers,
     keep: u64,
     dest: &mut [u8],
-) -> Rebuilt
+) -> Result<Numbers, Refusal>
     requires { (lowest_due n buf.now ≡ 0) × (lowest_due m other.now ≡ 0) }
     ensures { MergesWider n buf.now m other.now keep dest.old result dest.new }
 {
-    let shape = n.shape();
-    let other_shape = m.shape();
-    let due = wider_due(buf, shape, n.len, other, other_shape, m.len, keep);
-    if 0 < due {
-        return Rebuilt::Refused(due);
-    }
+    let added = Source::new(other, m);
+    wider_due(Source::new(buf, n), added, keep)?;
     if dest.len() != buf.len() {
-        return Rebuilt::Refused(12);
+        return Err(Refusal::DestinationLength);
     }
-    copy(buf, dest);
+    dest.copy_from_slice(buf);
     let most = max_count_of(keep);
-    let len = take_in(other, other_shape, m.len, dest, shape, n.len, most);
-    Rebuilt::Filter(n.with_len(len))
+    let len = take_in(added, dest, n.shape(), n.len, most);
+    Ok(n.with_len(len))
 }
 
 // Number 19 if the families differ, then 8 if other's width is smaller; else the case that the widths tell.
+#[tactic(auto, using(layout::specs::Judging::clear_of, crate::specs::Merging::pair_differ, crate::specs::Merging::pair_same, crate::specs::Merging::sound_narrower, crate::specs::Merging::sound_equal, crate::specs::Merging::sound_wider))]
 fn merge_sound(
     buf: &[u8],
     n: Numbers,
@@ -156,7 +142,7 @@ fn merge_sound(
     m: Numbers,
     keep: u64,
     dest: &mut [u8],
-) -> Rebuilt
+) -> Result<Numbers, Refusal>
     requires { (lowest_due n buf.now ≡ 0) × (lowest_due m other.now ≡ 0) }
     ensures { MergesPair n buf.now m other.now keep dest.old result dest.new }
 {
@@ -165,10 +151,10 @@ fn merge_sound(
     let family = n.family;
     let other_family = m.family;
     if other_family != family {
-        return Rebuilt::Refused(19);
+        return Err(Refusal::TwoFamilies);
     }
     if other_width < width {
-        return Rebuilt::Refused(8);
+        return Err(Refusal::Narrower);
     }
     if other_width == width {
         return merge_sorted(buf, n, other, m, keep, dest);
@@ -184,12 +170,9 @@ pub fn merge(
     m: Numbers,
     keep_duplicates: u64,
     dest: &mut [u8],
-) -> Rebuilt
+) -> Result<Numbers, Refusal>
     ensures { Merges n buf.now m other.now keep_duplicates dest.old result dest.new }
 {
-    let verdict = check_both(buf, n, other, m);
-    if let Verdict::Refused(k) = verdict {
-        return Rebuilt::Refused(k);
-    }
+    check_both(buf, n, other, m)?;
     merge_sound(buf, n, other, m, keep_duplicates, dest)
 }

@@ -5,51 +5,41 @@ ghost use Rattle.theory.specs.Refusal.{max_due};
 ghost use Rattle.layout.specs.Records.{lowest_due};
 ghost use Rattle.growth.specs.Rebuilding.{Empties, CanHold, RebuildsInto, Grows, GrowWorked};
 
+use crate::source::Source;
 use crate::take::take_in;
-use layout::check::{Verdict, check};
-use layout::fresh::{Made, fresh};
+use layout::check::check;
+use layout::fresh::fresh;
 use layout::numbers::Numbers;
+use layout::refusal::Refusal;
 use layout::shape::Shape;
 
-// The record of the filter that the destination holds then; or refused.
-#[derive(Clone, Copy)]
-pub enum Rebuilt {
-    Filter(Numbers),
-    Refused(u8),
-}
-
 // The destination is made empty; or number 12, and it stays as it was. The fresh filter's record, of family 0, is not used.
-pub fn empty_out(dest: &mut [u8], shape: Shape, max_qbits: u8) -> u8
+#[tactic(auto, using(crate::specs::Rebuilding::made_empties))]
+pub fn empty_out(dest: &mut [u8], shape: Shape, max_qbits: u8) -> Result<(), Refusal>
     requires { (Widths shape.qbits shape.rbits) × (max_due shape.qbits shape.rbits max_qbits ≡ 0) }
     ensures { Empties shape.qbits shape.rbits dest.old result dest.new }
 {
-    let made = fresh(dest, shape.qbits, shape.rbits, max_qbits, 0);
-    match made {
-        Made::Fresh(n) => 0,
-        Made::Refused(k) => k,
-    }
+    fresh(dest, shape.qbits, shape.rbits, max_qbits, 0)?;
+    Ok(())
 }
 
 // The list of a filter that passed 1 to 5, at other widths that have room for it, in the destination; or number 12. What it leaves is fixed where the buffer is sound.
-pub fn rebuild_into(buf: &[u8], n: Numbers, shape: Shape, dest: &mut [u8]) -> Rebuilt
+pub fn rebuild_into(buf: &[u8], n: Numbers, shape: Shape, dest: &mut [u8]) -> Result<Numbers, Refusal>
     requires { (lowest_due n buf.now ≡ 0) × (CanHold n shape) }
     ensures { RebuildsInto n buf.now shape dest.old result dest.new }
 {
-    let due = empty_out(dest, shape, n.max_qbits);
-    if 0 < due {
-        return Rebuilt::Refused(due);
-    }
-    let len = take_in(buf, n.shape(), n.len, dest, shape, 0, u64::MAX);
-    Rebuilt::Filter(n.with_shape(shape, len))
+    empty_out(dest, shape, n.max_qbits)?;
+    let len = take_in(Source::new(buf, n), dest, shape, 0, u64::MAX);
+    Ok(n.with_shape(shape, len))
 }
 
 // Growth of a filter that passed 1 to 5: number 7, or the rebuild.
-fn grow(buf: &[u8], n: Numbers, dest: &mut [u8]) -> Rebuilt
+fn grow(buf: &[u8], n: Numbers, dest: &mut [u8]) -> Result<Numbers, Refusal>
     requires { lowest_due n buf.now ≡ 0 }
     ensures { GrowWorked n buf.now dest.old result dest.new }
 {
     if n.max_qbits <= n.qbits {
-        return Rebuilt::Refused(7);
+        return Err(Refusal::NoRoom);
     }
     let grown = Shape {
         qbits: n.qbits + 1,
@@ -59,12 +49,9 @@ fn grow(buf: &[u8], n: Numbers, dest: &mut [u8]) -> Rebuilt
 }
 
 // The same holding with one more bit of quotient, in the destination; or number 1 to 6, 7, then 12.
-pub fn rebuild_grown(buf: &[u8], n: Numbers, dest: &mut [u8]) -> Rebuilt
+pub fn rebuild_grown(buf: &[u8], n: Numbers, dest: &mut [u8]) -> Result<Numbers, Refusal>
     ensures { Grows n buf.now dest.old result dest.new }
 {
-    let verdict = check(buf, n);
-    if let Verdict::Refused(k) = verdict {
-        return Rebuilt::Refused(k);
-    }
+    check(buf, n)?;
     grow(buf, n, dest)
 }

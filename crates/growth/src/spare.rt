@@ -1,59 +1,60 @@
 // Insert with a spare: where a plain insert would refuse number 7, the filter grows into a second lent buffer.
 ghost use Rattle.growth.specs.Spare.{InsertSpare, InsertSpareQuick, MovesWorked, PutsInSpare, MovesIfFull};
 
-use crate::rebuild::{Rebuilt, rebuild_grown};
+use crate::rebuild::rebuild_grown;
 use layout::numbers::Numbers;
-use writing::writers::{Inserted, insert_fingerprint_counting, insert_fingerprint_counting_quick};
+use layout::refusal::Refusal;
+use writing::writers::{insert_fingerprint_counting, insert_fingerprint_counting_quick};
 
-// The answer of an insert with the record afterwards, by the buffer that holds the filter then; or refused.
+// The answer of an insert with the record afterwards, by the buffer that holds the filter then.
 #[derive(Clone, Copy)]
 pub enum Placed {
     InOld(u64, Numbers),
     InSpare(u64, Numbers),
-    Refused(u8),
 }
 
 // The insert into a spare that has just been grown into, and so is sound.
-fn put_in_spare(spare: &mut [u8], n: Numbers, hash: u64, max_count: u64) -> Placed
+fn put_in_spare(
+    spare: &mut [u8],
+    n: Numbers,
+    hash: u64,
+    max_count: u64,
+) -> Result<Placed, Refusal>
     ensures { PutsInSpare n hash max_count spare.old result spare.new }
 {
-    let done = insert_fingerprint_counting_quick(spare, n, hash, max_count);
-    match done {
-        Inserted::Counted(m, after) => Placed::InSpare(m, after),
-        Inserted::Refused(k) => Placed::Refused(k),
-    }
+    let (answer, after) = insert_fingerprint_counting_quick(spare, n, hash, max_count)?;
+    Ok(Placed::InSpare(answer, after))
 }
 
 // Growth into the spare and the insert there; the old buffer is only read.
-fn move_to_spare(buf: &[u8], n: Numbers, hash: u64, max_count: u64, spare: &mut [u8]) -> Placed
-    ensures { MovesWorked n hash max_count buf.now spare.old result spare.new }
-{
-    let rebuilt = rebuild_grown(buf, n, spare);
-    match rebuilt {
-        Rebuilt::Filter(grown) => put_in_spare(spare, grown, hash, max_count),
-        Rebuilt::Refused(k) => Placed::Refused(k),
-    }
-}
-
-// What a plain insert's answer leads to: only number 7 makes it look at the spare.
-fn move_if_full(
-    done: Inserted,
+fn move_to_spare(
     buf: &[u8],
     n: Numbers,
     hash: u64,
     max_count: u64,
     spare: &mut [u8],
-) -> Placed
+) -> Result<Placed, Refusal>
+    ensures { MovesWorked n hash max_count buf.now spare.old result spare.new }
+{
+    let grown = rebuild_grown(buf, n, spare)?;
+    put_in_spare(spare, grown, hash, max_count)
+}
+
+// What a plain insert's answer leads to: only number 7 makes it look at the spare.
+fn move_if_full(
+    done: Result<(u64, Numbers), Refusal>,
+    buf: &[u8],
+    n: Numbers,
+    hash: u64,
+    max_count: u64,
+    spare: &mut [u8],
+) -> Result<Placed, Refusal>
     ensures { MovesIfFull n hash max_count buf.now spare.old done result spare.new }
 {
     match done {
-        Inserted::Counted(m, after) => Placed::InOld(m, after),
-        Inserted::Refused(k) => {
-            if k != 7 {
-                return Placed::Refused(k);
-            }
-            move_to_spare(buf, n, hash, max_count, spare)
-        }
+        Ok((answer, after)) => Ok(Placed::InOld(answer, after)),
+        Err(Refusal::NoRoom) => move_to_spare(buf, n, hash, max_count, spare),
+        Err(refusal) => Err(refusal),
     }
 }
 
@@ -64,7 +65,7 @@ pub fn insert_with_spare(
     hash: u64,
     max_count: u64,
     spare: &mut [u8],
-) -> Placed
+) -> Result<Placed, Refusal>
     ensures { InsertSpare n hash max_count buf.old spare.old result buf.new spare.new }
 {
     let done = insert_fingerprint_counting(buf, n, hash, max_count);
@@ -78,7 +79,7 @@ pub fn insert_with_spare_quick(
     hash: u64,
     max_count: u64,
     spare: &mut [u8],
-) -> Placed
+) -> Result<Placed, Refusal>
     ensures { InsertSpareQuick n hash max_count buf.old spare.old result buf.new spare.new }
 {
     let done = insert_fingerprint_counting_quick(buf, n, hash, max_count);

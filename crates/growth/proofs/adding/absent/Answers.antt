@@ -2,12 +2,8 @@
 use Rattle.growth.specs.Adding.{lacks_seen}
 use Rattle.growth.proofs.adding.absent.Goals as goal
 
-pub returns-in-At : goal.returns-in-At
-returns-in-At c =
-    let a = c.args in
-    lacks_seen a.shape a.buf.now a.hash _ (c.in-At.ensures)
+pub returns-in-Held : goal.returns-in-Held
+returns-in-Held c = lacks_seen c.args.a c.args.hash _ c.in-Held.ensures
 
 pub returns-in-Absent : goal.returns-in-Absent
-returns-in-Absent c =
-    let a = c.args in
-    lacks_seen a.shape a.buf.now a.hash _ (c.in-Absent.ensures)
+returns-in-Absent c = lacks_seen c.args.a c.args.hash _ c.in-Absent.ensures

@@ -1,10 +1,6 @@
 -- `growth::adding::unmet`: the invariant is that i fingerprints are passed, none of them cut to f (specs/Counting). Assumes nothing.
-use Prim.Native.Nat.{◌-◌}
 use Rattle.growth.specs.Counting.{Passing}
 use Rattle.growth.proofs.adding.unmet.Given as goal
 
 abbrev pub invariant-loop-i : goal.invariant-loop-i
-invariant-loop-i l = Passing l.b_shape l.b l.b_len l.shape l.k l.f l.i l.place
-
-abbrev pub decreases-loop-i : goal.decreases-loop-i
-decreases-loop-i l = l.k - l.i
+invariant-loop-i l = Passing l.b l.shape l.k l.f l.i l.place

@@ -2,31 +2,18 @@
 use Prim.Native.Nat.{◌+◌, ◌≤◌}
 use mathlib.Core.Path.{◌≡◌}
 use native.Mathlib.Omega.{arith}
-use Rattle.layout.specs.Judging.{clear_whole, clear_of}
+use Rattle.layout.specs.Judging.{clear_of}
 use Rattle.theory.specs.plan.Limits.{few}
 use Rattle.growth.specs.MergeLists.{wants_sum, wants_union}
 use Rattle.growth.proofs.merge.wanted_len.Goals as goal
-
-pub overflow_add-result : goal.overflow_add-result
-overflow_add-result c =
-    let a = c.args in
-    omega (arith, few _ _ _ _ _ c.requires.0, few _ _ _ _ _ c.requires.1)
 
 pub returns-then-keep-ne0 : goal.returns-then-keep-ne0
 returns-then-keep-ne0 c =
     let a = c.args in
     wants_sum a.n a.buf.now a.m a.other.now c.requires.0 c.requires.1 a.keep c.if-keep-ne0.true
 
-pub union_len-either-requires : goal.union_len-either-requires
-union_len-either-requires c =
-    let a = c.args in
-    let d = clear_of a.n a.buf.now c.requires.0 in
-    let f = clear_of a.m a.other.now c.requires.1 in
-    let w : a.m.qbits + a.m.rbits ≤ a.n.qbits + a.n.rbits = omega (arith, c.requires.2) in
-    rw (c.shape-2.ensures, c.shape.ensures) (clear_whole a.n a.buf.now c.requires.0, clear_whole a.m a.other.now c.requires.1, w, d.fewer, f.fewer)
-
 pub returns : goal.returns
 returns c =
     let a = c.args in
     let none : a.keep ≡ 0 = omega (arith, c.if-keep-ne0.false) in
-    rw (c.larger-2.ensures, c.larger.ensures) (wants_union a.n a.buf.now a.m a.other.now c.requires.0 c.requires.1 a.keep none _ (rw (c.shape-2.ensures, c.shape.ensures) at c.union_len-either.ensures))
+    rw (c.larger-2.ensures, c.larger.ensures) (wants_union a.n a.buf.now a.m a.other.now c.requires.0 c.requires.1 a.keep none _ _ c.new.ensures c.new-2.ensures _ c.union_len-either.ensures)

@@ -1,20 +1,9 @@
 -- `growth::rebuild::rebuild_grown`: the check's number, or growth of a sound buffer. Assumes nothing.
-use mathlib.Core.Path.{refl}
-use Rattle.layout.specs.Verdicts.{Judged}
-use Rattle.layout.specs.Judging.{checked_refused, checked_sound}
-use Rattle.layout.specs.declared.check.Verdict.TheVariants.{Sound}
+use Rattle.layout.specs.Judging.{checked_sound}
 use Rattle.growth.proofs.rebuild.rebuild_grown.Goals as goal
-use Rattle.growth.proofs.rebuild.rebuild_grown.Goals.{In_default}
-
--- the buffer is sound
-sound : (c : In_default) → Judged c.args.n c.args.buf.now Sound
-sound c = c.in_default.ensures
-
-pub returns-in-Refused : goal.returns-in-Refused
-returns-in-Refused c = checked_refused c.args.n _ _ _ _ (c.in-Refused.ensures) (refl, refl)
 
 pub grow-requires : goal.grow-requires
-grow-requires c = (sound (goal.at.grow-requires c).In_default).none
+grow-requires c = c.in_ok-check.ensures.none
 
 pub returns : goal.returns
-returns c = checked_sound c.args.n _ _ _ (sound (goal.at.returns c).In_default) c.grow.ensures
+returns c = checked_sound c.args.n _ _ _ c.in_ok-check.ensures c.grow.ensures
