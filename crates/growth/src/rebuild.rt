@@ -24,7 +24,12 @@ pub fn empty_out(dest: &mut [u8], shape: Shape, max_qbits: u8) -> Result<(), Ref
 }
 
 // The list of a filter that passed 1 to 5, at other widths that have room for it, in the destination; or number 12. What it leaves is fixed where the buffer is sound.
-pub fn rebuild_into(buf: &[u8], n: Numbers, shape: Shape, dest: &mut [u8]) -> Result<Numbers, Refusal>
+pub fn rebuild_into(
+    buf: &[u8],
+    n: Numbers,
+    shape: Shape,
+    dest: &mut [u8],
+) -> Result<Numbers, Refusal>
     requires { (lowest_due n buf.now ≡ 0) × (CanHold n shape) }
     ensures { RebuildsInto n buf.now shape dest.old result dest.new }
 {

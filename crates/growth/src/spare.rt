@@ -14,12 +14,7 @@ pub enum Placed {
 }
 
 // The insert into a spare that has just been grown into, and so is sound.
-fn put_in_spare(
-    spare: &mut [u8],
-    n: Numbers,
-    hash: u64,
-    max_count: u64,
-) -> Result<Placed, Refusal>
+fn put_in_spare(spare: &mut [u8], n: Numbers, hash: u64, max_count: u64) -> Result<Placed, Refusal>
     ensures { PutsInSpare n hash max_count spare.old result spare.new }
 {
     let (answer, after) = insert_fingerprint_counting_quick(spare, n, hash, max_count)?;
