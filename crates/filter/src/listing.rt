@@ -139,8 +139,10 @@ pub fn first_place(lent: &Blocks, len: u64) -> Place
     }
 }
 
-// One step over numbers that passed 1 to 5: the fingerprint of the place, and the place behind it. A place that has no slot is the end.
+// One step over numbers that passed 1 to 5: the fingerprint of the place, and the place behind it. A place that has no slot is the end. Put in line, as
+// `find_hash` is.
 #[tactic(auto, using(crate::specs::Moving::none_steps, crate::specs::Moving::outside_steps, crate::specs::Moving::some_steps))]
+#[inline(always)]
 pub fn step_core(lent: &Blocks, place: Place) -> Stepped
     ensures { Steps lent.now.shape lent.now.buf.now place result }
 {
