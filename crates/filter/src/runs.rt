@@ -173,7 +173,8 @@ fn start_past(lent: &Blocks, x: u64, n: u64) -> u64
 }
 
 // The first slot of the run of x. Where no run from before the block reaches slot x, it is the one behind the runends of those of the block's runs
-// that are not over at x. They are few, and mostly in its word, which is shifted up by one from x on, with a one below for x itself.
+// that are not over at x. They are few, and mostly in its word, which is shifted up by one from x on, with a one below for x itself. Put in line, as
+// `find_hash` is.
 #[tactic(auto, using(theory::specs::images::Sizes::slots_high, theory::specs::images::Sizes::slot_block))]
 #[inline(always)]
 pub fn run_start(lent: &Blocks, x: u64) -> u64
