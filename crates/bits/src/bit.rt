@@ -1,5 +1,5 @@
 // One bit of a word.
-ghost use Rattle.std.specs.Prelude.{◌≡◌, ◌^◌, ◌<◌};
+ghost use Rattle.std.specs.Prelude.{◌≡◌, ◌%◌, ◌^◌, ◌<◌};
 ghost use Rattle.theory.specs.number.Field.{field};
 
 // 2 to the i.
@@ -8,6 +8,14 @@ pub fn pow2(i: u64) -> u64
     ensures { (result ≡ 2 ^ i) × (0 < result) }
 {
     1 << i
+}
+
+// The digits of x below i.
+pub fn low(x: u64, i: u64) -> u64
+    requires { i < 64 }
+    ensures { result ≡ x % 2 ^ i }
+{
+    x & (pow2(i) - 1)
 }
 
 // Digit i, 0 or 1.

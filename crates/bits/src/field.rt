@@ -3,7 +3,7 @@ ghost use Rattle.std.specs.Prelude.{◌≡◌, ◌+◌, ◌*◌, ◌^◌, ◌<�
 ghost use Rattle.theory.specs.number.Field.{field, put};
 ghost use Rattle.theory.specs.number.Bytes.{le};
 
-use crate::bit::pow2;
+use crate::bit::low;
 use crate::word::{read64, write64};
 
 // w digits of x from digit p on.
@@ -11,7 +11,7 @@ pub fn field_of(x: u64, p: u64, w: u64) -> u64
     requires { (p < 64) × (w < 64) }
     ensures { result ≡ field x p w }
 {
-    (x >> p) & (pow2(w) - 1)
+    low(x >> p, w)
 }
 
 // x with v there.

@@ -72,6 +72,8 @@ fn around(shape: Shape, b: u64, i: u64) -> u64
 }
 
 // The runend bit that stands there.
+// Kept: one function for this and the next would read a bit as a cell, which takes more than one load and one test, and could not promise the sight's
+// views by their names.
 fn runend_on(buf: &[u8], shape: Shape, b: u64, i: u64) -> u64
     requires { (Whole shape (length buf.now)) × (b < blocks shape.qbits) × (i < 320) }
     ensures { (result ≡ (sees shape buf.now b).runend i) × (result < 2) }

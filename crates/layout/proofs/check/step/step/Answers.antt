@@ -1,6 +1,6 @@
 -- `layout::check::step::step`: the first round, the second, or nothing. Assumes nothing.
 use mathlib.Core.Path.{ap, refl}
-use native.Mathlib.Omega.{arith}
+use Rattle.std.proofs.Common.{rules, arith}
 use Prim.Native.Nat.{◌-◌}
 use Rattle.theory.specs.check.Buffer.{step_on_first, step_on_second, step_on_end}
 use Rattle.layout.specs.Walk.{cur}
@@ -10,7 +10,7 @@ pub returns-then-c-blocks : goal.returns-then-c-blocks
 returns-then-c-blocks c =
     let a = c.args in (
       step_on_first a.shape.qbits a.shape.rbits a.buf.now (cur a.c) _ _ _ (omega arith) c.occupieds.ensures c.runends.ensures c.first.ensures.0,
-      record { passed = omega arith; owed = c.first.ensures.1.owed; pending = c.first.ensures.1.pending; used = c.first.ensures.1.used; bad = c.first.ensures.1.bad },
+      search rules,
     )
 
 pub returns-then-c-blocks-2 : goal.returns-then-c-blocks-2
@@ -18,7 +18,7 @@ returns-then-c-blocks-2 c =
     let a = c.args in
     let n = c.blocks-blocks.ensures.0 in (
       step_on_second a.shape.qbits a.shape.rbits a.buf.now (cur a.c) _ _ (omega arith) (omega arith) (ap (λ k. a.c.passed - k) n) c.second.ensures.0,
-      record { passed = omega arith; owed = c.second.ensures.1.owed; pending = c.second.ensures.1.pending; used = c.second.ensures.1.used; bad = c.second.ensures.1.bad },
+      search rules,
     )
 
 pub returns : goal.returns
