@@ -11,6 +11,7 @@ pub fn pow2(i: u64) -> u64
 }
 
 // The digits of x below i.
+#[tactic(auto, using(std::proofs::lemmas::Nat::and_mask))]
 pub fn low(x: u64, i: u64) -> u64
     requires { i < 64 }
     ensures { result ≡ x % 2 ^ i }
@@ -19,6 +20,7 @@ pub fn low(x: u64, i: u64) -> u64
 }
 
 // Digit i, 0 or 1.
+#[tactic(auto, unfolding(theory::specs::number::Field::field))]
 pub fn bit(x: u64, i: u64) -> u64
     requires { i < 64 }
     ensures { (result ≡ field x i 1) × (result < 2) }
