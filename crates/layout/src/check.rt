@@ -22,6 +22,7 @@ pub enum Verdict {
 }
 
 // As many blocks as the budget says, or as are left.
+#[tactic(auto, using(theory::specs::check::Loops::steps_next, theory::specs::check::Loops::steps_early), unfolding(theory::specs::check::Step::steps))]
 fn go_on(buf: &[u8], shape: Shape, budget: u64, c: Cursor) -> Cursor
     requires { (Whole shape (length buf.now)) × (Fits (2 * blocks shape.qbits) c) }
     ensures { (cur result ≡ steps_on shape.qbits shape.rbits buf.now budget (cur c)) × (Fits (2 * blocks shape.qbits) result) }

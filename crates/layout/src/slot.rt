@@ -18,6 +18,7 @@ pub const RUNENDS: usize = 9;
 pub const REMAINDERS: usize = 17;
 
 // The first byte of block b.
+#[tactic(auto, using(theory::specs::images::Sizes::bytes_high, theory::specs::images::Sizes::block_in))]
 pub fn block_start(shape: Shape, b: u64) -> usize
     requires { (Widths shape.qbits shape.rbits) × (b < blocks shape.qbits) }
     ensures { (result ≡ block shape.rbits b) × (result + 17 + 8 * shape.rbits + 8 ≤ bytes shape.qbits shape.rbits) }
@@ -26,6 +27,7 @@ pub fn block_start(shape: Shape, b: u64) -> usize
 }
 
 // The cell of slot s in the area from byte d on, of w digits.
+#[tactic(auto, using(theory::specs::images::Sizes::slot_block), unfolding(theory::specs::images::Block::cell_at, theory::specs::images::Block::spot))]
 pub fn get_cell(buf: &[u8], shape: Shape, d: usize, w: u64, s: u64) -> u64
     requires { (Whole shape (length buf.now)) × (Area shape.rbits d w) × (w ≤ 58) × (s < slots shape.qbits) }
     ensures { (result ≡ cell_at shape.rbits d w (le buf.now) s) × (result < 2 ^ w) }
@@ -34,6 +36,7 @@ pub fn get_cell(buf: &[u8], shape: Shape, d: usize, w: u64, s: u64) -> u64
 }
 
 // The cell of slot s in the area from byte d on becomes v.
+#[tactic(auto, using(theory::specs::images::Sizes::slot_block), unfolding(theory::specs::images::Block::spot))]
 pub fn set_cell(buf: &mut [u8], shape: Shape, d: usize, w: u64, s: u64, v: u64)
     requires { (Whole shape (length buf.old)) × (Area shape.rbits d w) × (w ≤ 58) × (s < slots shape.qbits) × (v < 2 ^ w) }
     ensures { le buf.new ≡ put_cell shape.rbits d w (le buf.old) s v }
@@ -42,6 +45,7 @@ pub fn set_cell(buf: &mut [u8], shape: Shape, d: usize, w: u64, s: u64, v: u64)
 }
 
 // The 64 bits of block b in the area from byte d on.
+#[tactic(auto, unfolding(theory::specs::images::Block::word_at))]
 fn bits_of(buf: &[u8], shape: Shape, d: usize, b: u64) -> u64
     requires { (Whole shape (length buf.now)) × (Area shape.rbits d 1) × (b < blocks shape.qbits) }
     ensures { result ≡ word_at shape.rbits d (le buf.now) b }
@@ -50,6 +54,7 @@ fn bits_of(buf: &[u8], shape: Shape, d: usize, b: u64) -> u64
 }
 
 // The bit of slot s in the area from byte d on, 0 or 1: with one load and one test, which `get_cell` for one digit is not.
+#[tactic(auto, using(theory::specs::images::Sizes::slot_block, theory::specs::images::Block::word_bit))]
 fn bit_of(buf: &[u8], shape: Shape, d: usize, s: u64) -> u64
     requires { (Whole shape (length buf.now)) × (Area shape.rbits d 1) × (s < slots shape.qbits) }
     ensures { (result ≡ cell_at shape.rbits d 1 (le buf.now) s) × (result < 2) }
@@ -106,6 +111,7 @@ pub fn set_occupied(buf: &mut [u8], shape: Shape, s: u64, v: u64)
 }
 
 // The offset byte of block b.
+#[tactic(auto, unfolding(theory::specs::images::Block::offset_at))]
 pub fn offset_byte(buf: &[u8], shape: Shape, b: u64) -> u64
     requires { (Whole shape (length buf.now)) × (b < blocks shape.qbits) }
     ensures { (result ≡ offset_at shape.rbits (le buf.now) b) × (result < 256) }

@@ -43,6 +43,7 @@ impl Cursor {
 }
 
 // One block of the first round, by its occupied and runend bits alone.
+#[tactic(auto, using(theory::specs::check::Loops::first_begin, theory::specs::check::Loops::first_next, theory::specs::check::Loops::first_done))]
 fn first(occupieds: u64, runends: u64, c: Cursor) -> Cursor
     requires { Fits (2 ^ 54) c }
     ensures { (cur result ≡ first_round (λ i. field occupieds i 1) (λ i. field runends i 1) (cur c)) × (Fits (c.passed + 1) result) }
@@ -64,6 +65,7 @@ fn first(occupieds: u64, runends: u64, c: Cursor) -> Cursor
 }
 
 // The slot i places on from the first of block b, round the end: in that block or one of the four after it.
+#[tactic(auto, using(theory::specs::images::Sizes::slots_blocks, theory::specs::images::Sizes::blocks_high, theory::specs::images::Sizes::slots_pos))]
 fn around(shape: Shape, b: u64, i: u64) -> u64
     requires { (Widths shape.qbits shape.rbits) × (b < blocks shape.qbits) × (i < 320) }
     ensures { (result ≡ (64 * b + i) % (64 * blocks shape.qbits)) × (result < slots shape.qbits) }
@@ -74,6 +76,7 @@ fn around(shape: Shape, b: u64, i: u64) -> u64
 // The runend bit that stands there.
 // Kept: one function for this and the next would read a bit as a cell, which takes more than one load and one test, and could not promise the sight's
 // views by their names.
+#[tactic(auto, using(theory::specs::check::Buffer::sees_end))]
 fn runend_on(buf: &[u8], shape: Shape, b: u64, i: u64) -> u64
     requires { (Whole shape (length buf.now)) × (b < blocks shape.qbits) × (i < 320) }
     ensures { (result ≡ (sees shape buf.now b).runend i) × (result < 2) }
@@ -82,6 +85,7 @@ fn runend_on(buf: &[u8], shape: Shape, b: u64, i: u64) -> u64
 }
 
 // The remainder that stands there.
+#[tactic(auto, using(theory::specs::check::Buffer::sees_remainder))]
 fn remainder_on(buf: &[u8], shape: Shape, b: u64, i: u64) -> u64
     requires { (Whole shape (length buf.now)) × (b < blocks shape.qbits) × (i < 320) }
     ensures { result ≡ (sees shape buf.now b).remainder i }
@@ -90,6 +94,7 @@ fn remainder_on(buf: &[u8], shape: Shape, b: u64, i: u64) -> u64
 }
 
 // How many slots from the first of block b on until p runends are met; 255 if they are not met in 255 slots.
+#[tactic(auto, using(theory::specs::check::Loops::far_begin, theory::specs::check::Loops::far_step, theory::specs::check::Loops::far_met, theory::specs::check::Loops::far_end))]
 fn distance(buf: &[u8], shape: Shape, b: u64, p: u64) -> u64
     requires { (Whole shape (length buf.now)) × (b < blocks shape.qbits) }
     ensures { result ≡ dist (sees shape buf.now b).runend 255 p 0 }
@@ -105,6 +110,7 @@ fn distance(buf: &[u8], shape: Shape, b: u64, p: u64) -> u64
 }
 
 // The last eight bytes.
+#[tactic(auto, unfolding(theory::specs::images::Block::tail_at, theory::specs::Shape::bytes))]
 fn tail(buf: &[u8], shape: Shape) -> u64
     requires { Whole shape (length buf.now) }
     ensures { result ≡ tail_at shape.rbits (blocks shape.qbits) (le buf.now) }
@@ -113,6 +119,7 @@ fn tail(buf: &[u8], shape: Shape) -> u64
 }
 
 // 1 if block b's offset byte is not what p pending runs make it, or the last eight bytes are not zero.
+#[tactic(auto, using(theory::specs::check::Buffer::block_fails))]
 fn block_fails(buf: &[u8], shape: Shape, b: u64, p: u64) -> u64
     requires { (Whole shape (length buf.now)) × (b < blocks shape.qbits) }
     ensures { result ≡ min 1 (block_fault (sees shape buf.now b) p) }
@@ -124,6 +131,7 @@ fn block_fails(buf: &[u8], shape: Shape, b: u64, p: u64) -> u64
 }
 
 // One block of the second round.
+#[tactic(auto, using(theory::specs::check::Loops::second_begin, theory::specs::check::Loops::second_next, theory::specs::check::Loops::second_done, theory::specs::check::Buffer::sees_occupied, theory::specs::check::Buffer::sees_runend))]
 fn second(buf: &[u8], shape: Shape, b: u64, c: Cursor) -> Cursor
     requires { (Whole shape (length buf.now)) × (b < blocks shape.qbits) × (Fits (2 ^ 54) c) }
     ensures { (cur result ≡ second_round (sees shape buf.now b) (cur c)) × (Fits (c.passed + 1) result) }
@@ -153,6 +161,7 @@ fn second(buf: &[u8], shape: Shape, b: u64, c: Cursor) -> Cursor
 }
 
 // One block more; nothing after two rounds.
+#[tactic(auto, using(theory::specs::check::Buffer::step_on_first, theory::specs::check::Buffer::step_on_second, theory::specs::check::Buffer::step_on_end))]
 pub fn step(buf: &[u8], shape: Shape, c: Cursor) -> Cursor
     requires { (Whole shape (length buf.now)) × (Fits (2 * blocks shape.qbits) c) }
     ensures { (cur result ≡ step_on shape.qbits shape.rbits buf.now (cur c)) × (Fits (2 * blocks shape.qbits) result) }

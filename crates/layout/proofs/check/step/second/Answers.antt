@@ -14,6 +14,3 @@ loop-i-preserved c =
     (sees_occupied a.shape.qbits a.shape.rbits a.b a.buf.now c.requires.1 _ _ _ c.occupieds-occupieds.ensures (omega arith) c.bit-o.ensures.0) c.bit-o.ensures.1
     (sees_runend a.shape.qbits a.shape.rbits a.b a.buf.now c.requires.1 _ _ _ c.runends-runends.ensures (omega arith) c.bit-e.ensures.0)
     c.remainder_on-next.ensures c.slot_fails.ensures c.either-bad-in-loop-i.ensures c.either-used.ensures c.over-pending.ensures c.loop-i.invariant
-
-pub returns : goal.returns
-returns c = (second_done _ _ _ _ _ _ _ (omega arith) c.loop-i.invariant, search rules)
