@@ -5,33 +5,33 @@ ghost use Rattle.std.specs.Prelude.{◌≡◌, ◌-◌, ◌≤◌, min, max, ◌
 pub fn larger(a: u64, b: u64) -> u64
     ensures { result ≡ max a b }
 {
-    if a < b { b } else { a }
+    a.max(b)
 }
 
 // The lesser of two numbers.
 pub fn lesser(a: u64, b: u64) -> u64
     ensures { result ≡ min a b }
 {
-    if a < b { a } else { b }
+    a.min(b)
 }
 
 // a less b, 0 if b is more.
 pub fn over(a: u64, b: u64) -> u64
     ensures { result ≡ a - b }
 {
-    if a < b { 0 } else { a - b }
+    a.saturating_sub(b)
 }
 
 // 1 if a is below b, else 0.
 pub fn below(a: u64, b: u64) -> u64
     ensures { result ≡ min 1 (b - a) }
 {
-    if a < b { 1 } else { 0 }
+    u64::from(a < b)
 }
 
 // 1 if a equals b, else 0.
 pub fn equal(a: u64, b: u64) -> u64
     ensures { (a ≡ b → result ≡ 1) × ((a ≢ b) → result ≡ 0) × (result ≤ 1) }
 {
-    if a == b { 1 } else { 0 }
+    u64::from(a == b)
 }

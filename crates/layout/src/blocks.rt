@@ -35,6 +35,7 @@ impl<'a> Blocks<'a> {
     }
 
     // The cell of slot s in the area from byte d on, of w digits.
+    #[tactic(auto, using(theory::specs::images::Sizes::slot_block), unfolding(theory::specs::images::Block::cell_at, theory::specs::images::Block::spot))]
     pub fn get_cell(&self, d: usize, w: u64, s: u64) -> u64
         requires { (Area self.now.shape.rbits d w) × (w ≤ 58) × (s < slots self.now.shape.qbits) }
         ensures { (result ≡ cell_at self.now.shape.rbits d w (le self.now.buf.now) s) × (result < 2 ^ w) }
@@ -42,12 +43,30 @@ impl<'a> Blocks<'a> {
         bits::remainder::get_remainder(self.buf, block_start(self.shape, s / 64) + d, s % 64, w)
     }
 
+    // The 64 bits of block b in the area from byte d on.
+    #[tactic(auto, unfolding(theory::specs::images::Block::word_at))]
+    fn bits_of(&self, d: usize, b: u64) -> u64
+        requires { (Area self.now.shape.rbits d 1) × (b < blocks self.now.shape.qbits) }
+        ensures { result ≡ word_at self.now.shape.rbits d (le self.now.buf.now) b }
+    {
+        bits::word::read64(self.buf, block_start(self.shape, b) + d)
+    }
+
+    // The bit of slot s in the area from byte d on, 0 or 1: with one load and one test, which `get_cell` for one digit is not.
+    #[tactic(auto, using(theory::specs::images::Sizes::slot_block, theory::specs::images::Block::word_bit))]
+    fn bit_of(&self, d: usize, s: u64) -> u64
+        requires { (Area self.now.shape.rbits d 1) × (s < slots self.now.shape.qbits) }
+        ensures { (result ≡ cell_at self.now.shape.rbits d 1 (le self.now.buf.now) s) × (result < 2) }
+    {
+        bits::bit::bit(self.bits_of(d, s / 64), s % 64)
+    }
+
     // The 64 occupied bits of block b.
     pub fn occupieds(&self, b: u64) -> u64
         requires { b < blocks self.now.shape.qbits }
         ensures { result ≡ word_at self.now.shape.rbits 1 (le self.now.buf.now) b }
     {
-        bits::word::read64(self.buf, block_start(self.shape, b) + OCCUPIEDS)
+        self.bits_of(OCCUPIEDS, b)
     }
 
     // The 64 runend bits of block b.
@@ -55,7 +74,7 @@ impl<'a> Blocks<'a> {
         requires { b < blocks self.now.shape.qbits }
         ensures { result ≡ word_at self.now.shape.rbits 9 (le self.now.buf.now) b }
     {
-        bits::word::read64(self.buf, block_start(self.shape, b) + RUNENDS)
+        self.bits_of(RUNENDS, b)
     }
 
     // The occupied bit of slot s, 0 or 1.
@@ -63,7 +82,7 @@ impl<'a> Blocks<'a> {
         requires { s < slots self.now.shape.qbits }
         ensures { (result ≡ cell_at self.now.shape.rbits 1 1 (le self.now.buf.now) s) × (result < 2) }
     {
-        bits::bit::bit(self.occupieds(s / 64), s % 64)
+        self.bit_of(OCCUPIEDS, s)
     }
 
     // The runend bit of slot s, 0 or 1.
@@ -71,7 +90,7 @@ impl<'a> Blocks<'a> {
         requires { s < slots self.now.shape.qbits }
         ensures { (result ≡ cell_at self.now.shape.rbits 9 1 (le self.now.buf.now) s) × (result < 2) }
     {
-        bits::bit::bit(self.runends(s / 64), s % 64)
+        self.bit_of(RUNENDS, s)
     }
 
     // The remainder in slot s.
@@ -79,10 +98,11 @@ impl<'a> Blocks<'a> {
         requires { s < slots self.now.shape.qbits }
         ensures { (result ≡ cell_at self.now.shape.rbits 17 self.now.shape.rbits (le self.now.buf.now) s) × (result < 2 ^ self.now.shape.rbits) }
     {
-        self.get_cell(REMAINDERS, self.shape.rbits as u64, s)
+        self.get_cell(REMAINDERS, u64::from(self.shape.rbits), s)
     }
 
     // The offset byte of block b.
+    #[tactic(auto, unfolding(theory::specs::images::Block::offset_at))]
     pub fn offset_byte(&self, b: u64) -> u64
         requires { b < blocks self.now.shape.qbits }
         ensures { (result ≡ offset_at self.now.shape.rbits (le self.now.buf.now) b) × (result < 256) }

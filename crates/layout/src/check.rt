@@ -16,18 +16,17 @@ mod flag;
 pub mod step;
 
 // As many blocks as the budget says, or as are left.
+#[tactic(auto, using(theory::specs::check::Loops::steps_next, theory::specs::check::Loops::steps_early), unfolding(theory::specs::check::Step::steps))]
 fn go_on(lent: &Blocks, budget: u64, c: Cursor) -> Cursor
     requires { Fits (2 * blocks lent.now.shape.qbits) c }
     ensures { (cur result ≡ steps_on lent.now.shape.qbits lent.now.shape.rbits lent.now.buf.now budget (cur c)) × (Fits (2 * blocks lent.now.shape.qbits) result) }
 {
     let mut at = c;
-    let mut k = 0;
-    while k < budget {
+    for _ in 0..budget {
         if 2 * lent.shape.blocks() <= at.passed {
             return at;
         }
         at = step::step(lent, at);
-        k += 1;
     }
     at
 }

@@ -10,11 +10,7 @@ use crate::shape::Shape;
 pub fn clear(buf: &mut [u8])
     ensures { buf.new ≡ replicate (length buf.old) 0 }
 {
-    let mut i = 0;
-    while i < buf.len() {
-        buf[i] = 0;
-        i += 1;
-    }
+    buf.fill(0);
 }
 
 // An empty filter of these widths and this family in the buffer; or number 1, 4, then 12, and the buffer as it was.

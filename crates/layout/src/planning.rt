@@ -31,18 +31,16 @@ pub fn capacity_of(qbits: u8) -> u64
 }
 
 // The smallest width, 6 or more, whose capacity suffices.
+#[tactic(auto, using(theory::specs::plan::Needed::width_here, theory::specs::plan::Needed::width_step, theory::specs::plan::Needed::width_end), unfolding(theory::specs::Planning::needed_qbits))]
 fn width_for(capacity: u64) -> u8
     ensures { (result ≡ needed_qbits capacity) × (6 ≤ result) × (result ≤ 59) }
 {
-    let mut qbits = Shape::MIN_QBITS;
-    while qbits < Shape::MAX_QBITS {
-        if capacity_of(qbits) < capacity {
-            qbits += 1;
-        } else {
+    for qbits in Shape::MIN_QBITS..Shape::MAX_QBITS {
+        if capacity <= capacity_of(qbits) {
             return qbits;
         }
     }
-    qbits
+    Shape::MAX_QBITS
 }
 
 // The width of the slots that a capacity needs, or number 10.
@@ -56,42 +54,41 @@ pub fn needed_qbits(capacity: u64) -> Result<u8, Refusal>
 }
 
 // The first k from 1 to 64 for which 2 ^ -k is not above the rate. What is not a number is below nothing.
+#[tactic(auto, using(theory::specs::plan::Rates::halve, theory::specs::plan::Rates::half_bits, theory::specs::plan::Rates::halvings_here, theory::specs::plan::Rates::halvings_step, theory::specs::plan::Rates::halvings_end), unfolding(theory::specs::Planning::rbits_for))]
 pub fn rbits_for(rate: f64) -> u8
     ensures { (result ≡ rbits_for rate) × (1 ≤ result) × (result ≤ 64) }
 {
     let mut h = 0.5;
-    let mut k = 1;
-    while k < 64 {
+    for k in 1..64 {
         if rate < h {
-            h = h * 0.5;
-            k += 1;
+            h *= 0.5;
         } else {
             return k;
         }
     }
-    k
+    64
 }
 
 // 2 ^ -rbits, exactly.
+#[tactic(auto, using(theory::specs::plan::Rates::halve, theory::specs::plan::Rates::half_bits, theory::specs::plan::Rates::one_bits))]
 fn max_error_ratio(rbits: u8) -> f64
     requires { rbits ≤ 64 }
     ensures { result ≡ half_pow rbits }
 {
     let mut h = 1.0;
-    let mut k = 0;
-    while k < rbits {
-        h = h * 0.5;
-        k += 1;
+    for _ in 0..rbits {
+        h *= 0.5;
     }
     h
 }
 
 // rbits + 2.125, exactly.
+#[tactic(auto, using(theory::specs::plan::Rates::per_item_lem))]
 fn bits_per_item(rbits: u8) -> f64
     requires { rbits < 64 }
     ensures { result ≡ per_item rbits }
 {
-    (rbits as f64) + 2.125
+    f64::from(rbits) + 2.125
 }
 
 // What a filter of these widths comes to.

@@ -19,6 +19,7 @@ pub const RUNENDS: usize = 9;
 pub const REMAINDERS: usize = 17;
 
 // The first byte of block b.
+#[tactic(auto, using(theory::specs::images::Sizes::bytes_high, theory::specs::images::Sizes::block_in))]
 pub fn block_start(shape: Shape, b: u64) -> usize
     requires { (Widths shape.qbits shape.rbits) × (b < blocks shape.qbits) }
     ensures { (result ≡ block shape.rbits b) × (result + 17 + 8 * shape.rbits + 8 ≤ bytes shape.qbits shape.rbits) }
@@ -27,6 +28,7 @@ pub fn block_start(shape: Shape, b: u64) -> usize
 }
 
 // The cell of slot s in the area from byte d on becomes v.
+#[tactic(auto, using(theory::specs::images::Sizes::slot_block), unfolding(theory::specs::images::Block::spot))]
 pub fn set_cell(buf: &mut [u8], shape: Shape, d: usize, w: u64, s: u64, v: u64)
     requires { (Whole shape (length buf.old)) × (Area shape.rbits d w) × (w ≤ 58) × (s < slots shape.qbits) × (v < 2 ^ w) }
     ensures { le buf.new ≡ put_cell shape.rbits d w (le buf.old) s v }

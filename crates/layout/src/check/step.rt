@@ -42,30 +42,29 @@ impl Cursor {
 }
 
 // One block of the first round, by its occupied and runend bits alone.
+#[tactic(auto, using(theory::specs::check::Loops::first_begin, theory::specs::check::Loops::first_next, theory::specs::check::Loops::first_done))]
 fn first(occupieds: u64, runends: u64, c: Cursor) -> Cursor
     requires { Fits (2 ^ 54) c }
     ensures { (cur result ≡ first_round (λ i. field occupieds i 1) (λ i. field runends i 1) (cur c)) × (Fits (c.passed + 1) result) }
 {
     let mut pending = c.pending;
     let mut owed = c.owed;
-    let mut i = 0;
-    while i < 64 {
+    for i in 0..64 {
         let o = bits::bit::bit(occupieds, i);
         let e = bits::bit::bit(runends, i);
         owed += over(e, pending + o);
         pending = over(pending + o, e);
-        i += 1;
     }
     Cursor {
         passed: c.passed + 1,
         owed,
         pending,
-        used: c.used,
-        bad: c.bad,
+        ..c
     }
 }
 
 // The slot i places on from the first of block b, round the end: in that block or one of the four after it.
+#[tactic(auto, using(theory::specs::images::Sizes::slots_blocks, theory::specs::images::Sizes::blocks_high, theory::specs::images::Sizes::slots_pos))]
 fn around(shape: Shape, b: u64, i: u64) -> u64
     requires { (Widths shape.qbits shape.rbits) × (b < blocks shape.qbits) × (i < 320) }
     ensures { (result ≡ (64 * b + i) % (64 * blocks shape.qbits)) × (result < slots shape.qbits) }
@@ -74,6 +73,9 @@ fn around(shape: Shape, b: u64, i: u64) -> u64
 }
 
 // The runend bit that stands there.
+// Kept: one function for this and the next would read a bit as a cell, which takes more than one load and one test, and could not promise the sight's
+// views by their names.
+#[tactic(auto, using(theory::specs::check::Buffer::sees_end))]
 fn runend_on(lent: &Blocks, b: u64, i: u64) -> u64
     requires { (b < blocks lent.now.shape.qbits) × (i < 320) }
     ensures { (result ≡ (sees lent.now.shape lent.now.buf.now b).runend i) × (result < 2) }
@@ -82,6 +84,7 @@ fn runend_on(lent: &Blocks, b: u64, i: u64) -> u64
 }
 
 // The remainder that stands there.
+#[tactic(auto, using(theory::specs::check::Buffer::sees_remainder))]
 fn remainder_on(lent: &Blocks, b: u64, i: u64) -> u64
     requires { (b < blocks lent.now.shape.qbits) × (i < 320) }
     ensures { result ≡ (sees lent.now.shape lent.now.buf.now b).remainder i }
@@ -90,23 +93,23 @@ fn remainder_on(lent: &Blocks, b: u64, i: u64) -> u64
 }
 
 // How many slots from the first of block b on until p runends are met; 255 if they are not met in 255 slots.
+#[tactic(auto, using(theory::specs::check::Loops::far_begin, theory::specs::check::Loops::far_step, theory::specs::check::Loops::far_met, theory::specs::check::Loops::far_end))]
 fn distance(lent: &Blocks, b: u64, p: u64) -> u64
     requires { b < blocks lent.now.shape.qbits }
     ensures { result ≡ dist (sees lent.now.shape lent.now.buf.now b).runend 255 p 0 }
 {
     let mut left = p;
-    let mut d = 0;
-    while d < 255 {
+    for d in 0..255 {
         if left < 1 {
             return d;
         }
         left -= runend_on(lent, b, d);
-        d += 1;
     }
-    d
+    255
 }
 
 // The last eight bytes.
+#[tactic(auto, unfolding(theory::specs::images::Block::tail_at, theory::specs::Shape::bytes))]
 fn tail(lent: &Blocks) -> u64
     ensures { result ≡ tail_at lent.now.shape.rbits (blocks lent.now.shape.qbits) (le lent.now.buf.now) }
 {
@@ -114,6 +117,7 @@ fn tail(lent: &Blocks) -> u64
 }
 
 // 1 if block b's offset byte is not what p pending runs make it, or the last eight bytes are not zero.
+#[tactic(auto, using(theory::specs::check::Buffer::block_fails))]
 fn block_fails(lent: &Blocks, b: u64, p: u64) -> u64
     requires { b < blocks lent.now.shape.qbits }
     ensures { result ≡ min 1 (block_fault (sees lent.now.shape lent.now.buf.now b) p) }
@@ -125,6 +129,7 @@ fn block_fails(lent: &Blocks, b: u64, p: u64) -> u64
 }
 
 // One block of the second round.
+#[tactic(auto, using(theory::specs::check::Loops::second_begin, theory::specs::check::Loops::second_next, theory::specs::check::Loops::second_done, theory::specs::check::Buffer::sees_occupied, theory::specs::check::Buffer::sees_runend))]
 fn second(lent: &Blocks, b: u64, c: Cursor) -> Cursor
     requires { (b < blocks lent.now.shape.qbits) × (Fits (2 ^ 54) c) }
     ensures { (cur result ≡ second_round (sees lent.now.shape lent.now.buf.now b) (cur c)) × (Fits (c.passed + 1) result) }
@@ -135,8 +140,7 @@ fn second(lent: &Blocks, b: u64, c: Cursor) -> Cursor
     let mut used = c.used;
     let mut bad = either(c.bad, block_fails(lent, b, pending));
     let mut here = remainder_on(lent, b, 0);
-    let mut i = 0;
-    while i < 64 {
+    for i in 0..64 {
         let o = bits::bit::bit(occupieds, i);
         let e = bits::bit::bit(runends, i);
         let next = remainder_on(lent, b, i + 1);
@@ -144,18 +148,18 @@ fn second(lent: &Blocks, b: u64, c: Cursor) -> Cursor
         used += either(pending, o);
         pending = over(pending + o, e);
         here = next;
-        i += 1;
     }
     Cursor {
         passed: c.passed + 1,
-        owed: c.owed,
         pending,
         used,
         bad,
+        ..c
     }
 }
 
 // One block more; nothing after two rounds.
+#[tactic(auto, using(theory::specs::check::Buffer::step_on_first, theory::specs::check::Buffer::step_on_second, theory::specs::check::Buffer::step_on_end))]
 pub fn step(lent: &Blocks, c: Cursor) -> Cursor
     requires { Fits (2 * blocks lent.now.shape.qbits) c }
     ensures { (cur result ≡ step_on lent.now.shape.qbits lent.now.shape.rbits lent.now.buf.now (cur c)) × (Fits (2 * blocks lent.now.shape.qbits) result) }

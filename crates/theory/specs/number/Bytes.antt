@@ -6,6 +6,8 @@ use Rattle.std.proofs.Math.Nat.{mod-one, zero-div, zero-mod, suc_inj}
 use Rattle.std.proofs.lemmas.Nat.{mod-pow-add}
 use Rattle.std.proofs.Math.Pow.{high, low}
 use Rattle.std.proofs.lemmas.List.Edits.{sets, sets-eq}
+use Rattle.std.proofs.lemmas.List.{drop-drop}
+use borrow.Rule.Slice.PartMut.{put_mid}
 use Rattle.theory.specs.number.Field.{field_div, put, field, field_mod}
 
 unfoldable pub le : List ℕ → ℕ
@@ -66,12 +68,16 @@ unfolding le
 le_append [] t = omega arith
 le_append (b ∷ s) t = rw (le_append s t, pow8 (length s), mul_left_comm (le t) 256 (2 ^ (8 * length s))) (omega arith)
 
-pub le_sets : (s : List ℕ) (o : ℕ) (vs : List ℕ) → o + length vs ≤ length s → le (sets s o vs) ≡ put (le s) (8 * o) (8 * length vs) (le vs)
+pub le_put_mid : (s : List ℕ) (o : ℕ) (vs : List ℕ) → o + length vs ≤ length s → le (put_mid o (length vs) s vs) ≡ put (le s) (8 * o) (8 * length vs) (le vs)
 unfolding put
+le_put_mid s o vs l =
+    le_append (take o s) (vs ++ drop (length vs) (drop o s))
+    ∙ rw (le_append vs (drop (length vs) (drop o s)), drop-drop (length vs) o s, le_drop (o + length vs) s, le_take o s, length-take-le o s (omega arith), mul-add 8 o (length vs))
+
+pub le_sets : (s : List ℕ) (o : ℕ) (vs : List ℕ) → o + length vs ≤ length s → le (sets s o vs) ≡ put (le s) (8 * o) (8 * length vs) (le vs)
 le_sets s o vs l =
     ap le (sets-eq vs s o l ∙ append_assoc (take o s) vs (drop (o + length vs) s))
-    ∙ le_append (take o s) (vs ++ drop (o + length vs) s)
-    ∙ rw (le_append vs (drop (o + length vs) s), le_drop (o + length vs) s, le_take o s, length-take-le o s (omega arith), mul-add 8 o (length vs))
+    ∙ (rw drop-drop at (le_put_mid s o vs l))
 
 pub le_set : (s : List ℕ) (i v : ℕ) → i < length s → v < 256 → le (set s i v) ≡ put (le s) (8 * i) 8 v
 unfolding le

@@ -1,8 +1,13 @@
-use Rattle.std.proofs.Common.{arith}
-use Rattle.theory.specs.number.WordLaws.{two}
+use Rattle.std.proofs.Common.{◌≡◌, ◌+◌, ◌-◌, ◌∙◌, ap, arith}
+use Rattle.std.specs.Int.{w64, to_le_bytes}
+use Rattle.theory.specs.number.Bytes.{le_put_mid}
+use Rattle.theory.specs.number.Field.{put}
+use Rattle.theory.specs.number.WordLaws.{le_word}
 use Rattle.bits.proofs.word.write64.Goals as goal
 
 pub returns : goal.returns
 returns c =
     let a = c.args in
-    two _ _ _ a.o 4 a.x (omega arith) c.write32.ensures c.write32-2.ensures
+    let bytes : c.copy_from_slice.new.self ≡ to_le_bytes w64 a.x = cc in
+    let e : a.o + 8 - a.o ≡ 8 = omega arith in
+    rw (bytes, e) (le_put_mid a.s.now a.o (to_le_bytes w64 a.x) (omega arith) ∙ ap (put _ _ 64) (le_word a.x c.ranges.x.fits))

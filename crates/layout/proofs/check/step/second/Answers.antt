@@ -1,5 +1,5 @@
 -- `layout::check::step::second`: slot by slot, what the queue does with the bits, and the tests of each slot. Assumes nothing.
-use native.Mathlib.Omega.{arith}
+use Rattle.std.proofs.Common.{rules, arith}
 use Rattle.theory.specs.check.Buffer.{sight_on, sees_occupied, sees_runend}
 use Rattle.theory.specs.check.Loops.{second_begin, second_next, second_done}
 use Rattle.layout.proofs.check.step.second.Goals as goal
@@ -14,6 +14,3 @@ loop-i-preserved c =
     (sees_occupied a.lent.now.shape.qbits a.lent.now.shape.rbits a.b a.lent.now.buf.now c.requires.0 _ _ _ c.occupieds-occupieds.ensures (omega arith) c.bit-o.ensures.0) c.bit-o.ensures.1
     (sees_runend a.lent.now.shape.qbits a.lent.now.shape.rbits a.b a.lent.now.buf.now c.requires.0 _ _ _ c.runends-runends.ensures (omega arith) c.bit-e.ensures.0)
     c.remainder_on-next.ensures c.slot_fails.ensures c.either-bad-in-loop-i.ensures c.either-used.ensures c.over-pending.ensures c.loop-i.invariant
-
-pub returns : goal.returns
-returns c = (second_done _ _ _ _ _ _ _ (omega arith) c.loop-i.invariant, record { passed = omega arith; owed = omega arith; pending = omega arith; used = omega arith; bad = omega arith })
