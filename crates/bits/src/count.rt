@@ -2,7 +2,7 @@
 ghost use Rattle.std.specs.Prelude.{◌≡◌, ◌+◌, ◌<◌, ◌≤◌};
 ghost use Rattle.theory.specs.number.Count.{rank};
 
-use crate::bit::pow2;
+use crate::bit::low;
 
 // How many ones x has.
 pub fn ones(x: u64) -> u64
@@ -16,7 +16,7 @@ pub fn ones_below(x: u64, i: u64) -> u64
     requires { i < 64 }
     ensures { (result ≡ rank x i) × (result ≤ i) }
 {
-    ones(x & (pow2(i) - 1))
+    ones(low(x, i))
 }
 
 // How many of the digits of x up to i are ones.
@@ -32,5 +32,5 @@ pub fn ones_between(x: u64, i: u64, j: u64) -> u64
     requires { (i ≤ j) × (j < 64) }
     ensures { (result + rank x i ≡ rank x j) × (result ≤ 64) }
 {
-    ones((x & (pow2(j) - 1)) >> i)
+    ones(low(x, j) >> i)
 }

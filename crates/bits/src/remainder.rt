@@ -6,6 +6,7 @@ ghost use Rattle.theory.specs.number.Bytes.{le};
 use crate::field::{get_field, set_field};
 
 // Remainder i of the 64 that stand from byte base on, rbits digits each.
+#[tactic(auto, using(theory::specs::number::Field::field_lt))]
 pub fn get_remainder(s: &[u8], base: usize, i: u64, rbits: u64) -> u64
     requires { (base + 8 * rbits + 8 ≤ length s.now) × (i < 64) × (rbits ≤ 58) }
     ensures { (result ≡ field (le s.now) (8 * base + i * rbits) rbits) × (result < 2 ^ rbits) }

@@ -4,6 +4,7 @@ ghost use Rattle.theory.specs.number.Field.{field, put};
 ghost use Rattle.theory.specs.number.Bytes.{le};
 
 // The byte at o.
+#[tactic(auto, using(theory::specs::number::Bytes::le_byte))]
 pub fn read8(s: &[u8], o: usize) -> u64
     requires { o + 1 ≤ length s.now }
     ensures { (result ≡ field (le s.now) (8 * o) 8) × (result < 2 ^ 8) }
@@ -20,6 +21,7 @@ pub fn read64(s: &[u8], o: usize) -> u64
 }
 
 // The byte at o becomes x.
+#[tactic(auto, using(theory::specs::number::Bytes::le_set))]
 pub fn write8(s: &mut [u8], o: usize, x: u64)
     requires { (o + 1 ≤ length s.old) × (x < 2 ^ 8) }
     ensures { le s.new ≡ put (le s.old) (8 * o) 8 x }

@@ -27,7 +27,7 @@ cuts h l = map (fingerprint h.qbits h.rbits) l
 
 -- what the bytes of a source show, and what it holds: nothing, if its len is 0
 abbrev pub ShownBy : Source → List ℕ → Type 0
-ShownBy a l = Shows a.shape a.buf.now l
+ShownBy a l = Shows a.lent.shape a.lent.buf.now l
 
 pub record Held (a : Source) (l : List ℕ) : Type 0 where
   pub none : a.len ≡ 0 → l ≡ []
@@ -47,7 +47,7 @@ TellsNone false count = 0 < count
 
 -- whether it is not held
 pub record Lacks (a : Source) (hash : ℕ) (r : Bool) : Type 0 where
-  pub right : (l : List ℕ) → ShownBy a l → TellsNone r (copies (cut_of a.shape hash) l)
+  pub right : (l : List ℕ) → ShownBy a l → TellsNone r (copies (cut_of a.lent.shape hash) l)
 
 -- whether none of the first k of b is cut to f
 pub record Unmet (b : Source) (h : Shape) (k f : ℕ) (r : Bool) : Type 0 where
@@ -62,22 +62,22 @@ pub record Stands (l : List ℕ) (k before f : ℕ) : Type 0 where
 -- whether neither a nor one before it in b has its cut
 pub record New (a b : Source) (k before f : ℕ) (r : Bool) : Type 0 where
   pub right : (la lb : List ℕ) → Held a la → ShownBy b lb → b.len ≡ length lb → Stands lb k before f
-      → TellsNone r (copies (cut_of a.shape f) la + copies (cut_of a.shape f) (take k (cuts a.shape lb)))
+      → TellsNone r (copies (cut_of a.lent.shape f) la + copies (cut_of a.lent.shape f) (take k (cuts a.lent.shape lb)))
 
 -- how many of b are added to a, and `enough` at most
 pub record Adds (a b : Source) (enough r : ℕ) : Type 0 where
   pub bound : r ≤ b.len
-  pub right : (la lb : List ℕ) → Held a la → ShownBy b lb → b.len ≡ length lb → r ≡ min enough (length (added_once la (cuts a.shape lb)) - length la)
+  pub right : (la lb : List ℕ) → Held a la → ShownBy b lb → b.len ≡ length lb → r ≡ min enough (length (added_once la (cuts a.lent.shape lb)) - length la)
 
 -- ---- a lookup
 abbrev pub absent_of : Lookup → Bool
 absent_of (lookup.Held k) = false
 absent_of (lookup.Absent k) = true
 
-pub lacks_seen : (a : Source) (hash : ℕ) (z : Lookup) → Seeks a.shape a.buf.now hash z → Lacks a hash (absent_of z)
+pub lacks_seen : (a : Source) (hash : ℕ) (z : Lookup) → Seeks a.lent.shape a.lent.buf.now hash z → Lacks a hash (absent_of z)
 lacks_seen a hash z p = record {
   right = λ l w.
-      let h = a.shape in
+      let h = a.lent.shape in
       let f = cut_of h hash in
       let same = copies_run (2 ^ h.rbits) (pow_pos h.rbits) f l in
       rw (p l w) (choose_by (λ y. TellsNone (absent_of y) (copies f l)) (dec_le 1 (copies (f % 2 ^ h.rbits) (run (2 ^ h.rbits) l (f / 2 ^ h.rbits)))) (λ b. omega arith) (λ b. omega arith));
@@ -85,24 +85,24 @@ lacks_seen a hash z p = record {
 
 -- ---- new: not the one before, not held by a, and not met
 -- nothing is cut off a fingerprint that is no wider
-pub cuts_same : (h : Shape) (b : Source) (l : List ℕ) → b.shape.qbits + b.shape.rbits ≤ h.qbits + h.rbits → ShownBy b l → cuts h l ≡ l
+pub cuts_same : (h : Shape) (b : Source) (l : List ℕ) → b.lent.shape.qbits + b.lent.shape.rbits ≤ h.qbits + h.rbits → ShownBy b l → cuts h l ≡ l
 unfolding slots
 cuts_same h b l few w =
-    let k = b.shape in
+    let k = b.lent.shape in
     cut_same h.qbits h.rbits l
     (under_mono (2 ^ k.qbits * 2 ^ k.rbits) (2 ^ (h.qbits + h.rbits)) l (omega (arith, pow-add 2 k.qbits k.rbits, pow_mono {i = k.qbits + k.rbits} {j = h.qbits + h.rbits} few)) w.holding.under)
 
 module _ (a b : Source) (k before f : ℕ) where
   abbrev c : ℕ
-  c = cut_of a.shape f
+  c = cut_of a.lent.shape f
 
-  cut_at : (l : List ℕ) (j g : ℕ) → j < length l → g ≡ get_or l j 0 → get_or (cuts a.shape l) j 0 ≡ cut_of a.shape g
-  cut_at l j g within e = get_d_map _ l j within ∙ ap (cut_of a.shape) (sym e)
+  cut_at : (l : List ℕ) (j g : ℕ) → j < length l → g ≡ get_or l j 0 → get_or (cuts a.lent.shape l) j 0 ≡ cut_of a.lent.shape g
+  cut_at l j g within e = get_d_map _ l j within ∙ ap (cut_of a.lent.shape) (sym e)
 
   pub new_repeat : 0 < k → f ≡ before → New a b k before f false
   new_repeat some e = record {
     right = λ la lb v w n t.
-        omega (arith, t.within, copies_taken c (cuts a.shape lb) (k - 1) k (omega arith) (omega (arith, t.within, length-map lb (cut_of a.shape))) (cut_at lb (k - 1) f (omega (arith, t.within)) (e ∙ t.last some)));
+        omega (arith, t.within, copies_taken c (cuts a.lent.shape lb) (k - 1) k (omega arith) (omega (arith, t.within, length-map lb (cut_of a.lent.shape))) (cut_at lb (k - 1) f (omega (arith, t.within)) (e ∙ t.last some)));
   }
 
   pub new_held : 0 < a.len → Lacks a f false → New a b k before f false
@@ -118,18 +118,18 @@ module _ (a b : Source) (k before f : ℕ) where
   pub free_lacks : 0 < a.len → Lacks a f true → Free
   free_lacks some lacks = record { none = λ la v. lacks.right la (v.some some) }
 
-  pub new_narrow : Free → (0 < k → f ≡ before → ⊥) → b.shape.qbits + b.shape.rbits ≤ a.shape.qbits + a.shape.rbits → New a b k before f true
+  pub new_narrow : Free → (0 < k → f ≡ before → ⊥) → b.lent.shape.qbits + b.lent.shape.rbits ≤ a.lent.shape.qbits + a.lent.shape.rbits → New a b k before f true
   new_narrow free ne few = record {
     right = λ la lb v w n t.
-        let same : cuts a.shape lb ≡ lb = cuts_same a.shape b lb few w in
+        let same : cuts a.lent.shape lb ≡ lb = cuts_same a.lent.shape b lb few w in
         let here : get_or lb k 0 ≡ c = ap (λ (z : List ℕ). get_or z k 0) (sym same) ∙ cut_at lb k f t.within t.here in
         let none = first_new lb k w.holding.ascending t.within (λ some e. ne some (t.here ∙ sym e ∙ sym (t.last some))) in
         rw same (omega (arith, free.none la v, rw here at none));
   }
 
-  pub new_unmet : (g : ℕ) (r : Bool) → Free → g ≡ c → Unmet b a.shape k g r → New a b k before f r
+  pub new_unmet : (g : ℕ) (r : Bool) → Free → g ≡ c → Unmet b a.lent.shape k g r → New a b k before f r
   new_unmet g r free e u = record {
     right = λ la lb v w n t.
-        let none : copies c la + copies c (take k (cuts a.shape lb)) ≡ copies c (take k (cuts a.shape lb)) = omega (arith, free.none la v) in
+        let none : copies c la + copies c (take k (cuts a.lent.shape lb)) ≡ copies c (take k (cuts a.lent.shape lb)) = omega (arith, free.none la v) in
         rw none (rw e at (u.right lb w n (omega (arith, t.within))));
   }

@@ -16,19 +16,19 @@ use Rattle.growth.specs.Adding.{cut_of, cuts, ShownBy, Held, TellsNone, Unmet, N
 
 -- ---- a listing of a source: its first place, a step from a place, and the place after k steps
 abbrev pub Starts : Source → Place → Type 0
-Starts b p = First b.shape b.buf.now b.len p
+Starts b p = First b.lent.shape b.lent.buf.now b.len p
 
 abbrev pub StepsOn : Source → Place → Stepped → Type 0
-StepsOn b p a = Steps b.shape b.buf.now p a
+StepsOn b p a = Steps b.lent.shape b.lent.buf.now p a
 
 abbrev pub place_in : Source → List ℕ → ℕ → Place
-place_in b l k = place_of b.shape.qbits b.shape.rbits l k
+place_in b l k = place_of b.lent.shape.qbits b.lent.shape.rbits l k
 
 -- from the place after k steps of more, the fingerprint of step k
 pub told_step : (b : Source) (l : List ℕ) (p : Place) (a : Stepped) (k : ℕ) → StepsOn b p a → ShownBy b l → p ≡ place_in b l k → k < length l
     → (a.step ≡ Ok (Some (get_or l k 0))) × (a.place ≡ place_in b l (suc k))
 told_step b l p a k st w at few =
-    let e = st.right l w k at ∙ step_some b.shape.qbits b.shape.rbits l k few in
+    let e = st.right l w k at ∙ step_some b.lent.shape.qbits b.lent.shape.rbits l k few in
     (ap (λ (z : Stepped). z.step) e, ap (λ (z : Stepped). z.place) e)
 
 -- ---- the first k, listed anew
@@ -91,7 +91,7 @@ module _ (a b : Source) where
   pub record Counted (la lb : List ℕ) (k count before : ℕ) (p : Place) : Type 0 where
     pub at : p ≡ place_in b lb k
     pub last : 0 < k → before ≡ get_or lb (k - 1) 0
-    pub many : length (added_once la (take k (cuts a.shape lb))) ≡ length la + count
+    pub many : length (added_once la (take k (cuts a.lent.shape lb))) ≡ length la + count
 
   pub record Counting (enough k count before : ℕ) (p : Place) : Type 0 where
     pub within : k ≤ b.len
@@ -113,15 +113,15 @@ module _ (a b : Source) where
     pub adds_enough : enough ≤ count → Adds a b enough count
     adds_enough h = record {
       bound = omega (arith, z.within, z.few);
-      right = λ la lb v w n. omega (arith, z.most, (z.right la lb v w n).many, once_part la (cuts a.shape lb) k);
+      right = λ la lb v w n. omega (arith, z.most, (z.right la lb v w n).many, once_part la (cuts a.lent.shape lb) k);
     }
 
     pub adds_all : b.len ≤ k → Adds a b enough count
     adds_all h = record {
       bound = omega (arith, z.within, z.few);
       right = λ la lb v w n.
-          let e : k ≡ length (cuts a.shape lb) = omega (arith, z.within, length-map lb (cut_of a.shape)) in
-          let t : take k (cuts a.shape lb) ≡ cuts a.shape lb = rw e (take-length (cuts a.shape lb)) in
+          let e : k ≡ length (cuts a.lent.shape lb) = omega (arith, z.within, length-map lb (cut_of a.lent.shape)) in
+          let t : take k (cuts a.lent.shape lb) ≡ cuts a.lent.shape lb = rw e (take-length (cuts a.lent.shape lb)) in
           omega (arith, z.most, rw t at (z.right la lb v w n).many);
     }
 
@@ -149,8 +149,8 @@ module _ (a b : Source) where
               let t = listed la lb v w n in
               let here : f ≡ get_or lb k 0 = cc (is, t.0) in
               let d : k < length lb = omega arith in
-              let at : get_or (cuts a.shape lb) k 0 ≡ cut_of a.shape f = get_d_map _ lb k d ∙ ap (cut_of a.shape) (sym here) in
+              let at : get_or (cuts a.lent.shape lb) k 0 ≡ cut_of a.lent.shape f = get_d_map _ lb k d ∙ ap (cut_of a.lent.shape) (sym here) in
               let one = counted_more r count _ (new.right la lb v w n (record { within = d; here = here; last = c.last })) in
-              let grown = rw at at (once_step la (cuts a.shape lb) k (omega (arith, length-map lb (cut_of a.shape)))) in
+              let grown = rw at at (once_step la (cuts a.lent.shape lb) k (omega (arith, length-map lb (cut_of a.lent.shape)))) in
               let e : suc k - 1 ≡ k = omega arith in
               record { at = t.1; last = λ _. rw e here; many = omega (arith, c.many, grown, one) }

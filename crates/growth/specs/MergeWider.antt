@@ -54,7 +54,7 @@ module _ (n : Numbers) (s : List ℕ) (m : Numbers) (o : List ℕ) (e : lowest_d
     room : (la lb : List ℕ) → HoldsOf n s la → HoldsOf m o lb → length (all la lb) ≤ capacity n.qbits
     room la lb x y = none_few n.qbits la (all la lb) (none la lb x y) (held_within n s la e x)
 
-    pub wider_built : length d ≡ length s → (len : ℕ) (t : List ℕ) → Bytes t → length t ≡ length d → TakesIn b.shape b.buf.now b.len (shape_of n) s n.len (most_of keep) len t
+    pub wider_built : length d ≡ length s → (len : ℕ) (t : List ℕ) → Bytes t → length t ≡ length d → TakesIn b.lent.shape b.lent.buf.now b.len (shape_of n) s n.len (most_of keep) len t
         → MergesWider n s m o keep d (Ok (with_len n len)) t
     wider_built same len t bytes size g la lb x y =
         let h = shape_of n in

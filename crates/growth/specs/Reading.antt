@@ -11,8 +11,8 @@ use Rattle.growth.specs.Take.{TakesIn}
 
 -- the bytes s, read by the record n
 pub record Reads (n : Numbers) (s : List ℕ) (a : Source) : Type 0 where
-  pub bytes : a.buf.now ≡ s
-  pub shape : a.shape ≡ shape_of n
+  pub bytes : a.lent.buf.now ≡ s
+  pub shape : a.lent.shape ≡ shape_of n
   pub len : a.len ≡ n.len
 
 module _ (n : Numbers) (s : List ℕ) (a : Source) (w : Reads n s a) where
@@ -21,5 +21,5 @@ module _ (n : Numbers) (s : List ℕ) (a : Source) (w : Reads n s a) where
   reads_shows e l h = rw (w.shape, w.bytes) (holds_shows n s l (clear_of n s e).widths h)
 
   -- what is taken in of it is taken in of the filter
-  pub reads_takes : (h : Shape) (d : List ℕ) (len most r : ℕ) (t : List ℕ) → TakesIn a.shape a.buf.now a.len h d len most r t → TakesIn (shape_of n) s n.len h d len most r t
+  pub reads_takes : (h : Shape) (d : List ℕ) (len most r : ℕ) (t : List ℕ) → TakesIn a.lent.shape a.lent.buf.now a.len h d len most r t → TakesIn (shape_of n) s n.len h d len most r t
   reads_takes h d len most r t g = rw (w.shape, w.bytes, w.len) at g

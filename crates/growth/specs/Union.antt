@@ -13,13 +13,13 @@ pub record United (a b : Source) (r : ℕ) : Type 0 where
   pub right : (la lb : List ℕ) → ShownBy a la → ShownBy b lb → length la ≡ a.len → length lb ≡ b.len → r ≡ length (joined 0 la lb)
 
 -- what a adds to nothing, and what b adds to a
-pub united : (none a b : Source) (r r' : ℕ) → none.len ≡ 0 → none.shape ≡ a.shape → b.shape.qbits + b.shape.rbits ≤ a.shape.qbits + a.shape.rbits
+pub united : (none a b : Source) (r r' : ℕ) → none.len ≡ 0 → none.lent.shape ≡ a.lent.shape → b.lent.shape.qbits + b.lent.shape.rbits ≤ a.lent.shape.qbits + a.lent.shape.rbits
     → Adds none a a.len r → Adds a b b.len r' → United a b (r + r')
 unfolding joined
 united none a b r r' nothing alike few x y = record { bound = omega (arith, x.bound, y.bound); right = counted }
   where
     counted : (la lb : List ℕ) → ShownBy a la → ShownBy b lb → length la ≡ a.len → length lb ≡ b.len → r + r' ≡ length (joined 0 la lb)
     counted la lb wa wb ea eb =
-        let own : r ≡ min a.len (length (added_once [] la) - 0) = rw (alike, cuts_same a.shape a la (omega arith) wa) at (x.right [] la (record { none = λ _. refl; some = λ h. absurd (omega arith) }) wa (sym ea)) in
-        let other : r' ≡ min b.len (length (added_once la lb) - length la) = rw (cuts_same a.shape b lb few wb) at (y.right la lb (held_shown a la ea wa) wb (sym eb)) in
+        let own : r ≡ min a.len (length (added_once [] la) - 0) = rw (alike, cuts_same a.lent.shape a la (omega arith) wa) at (x.right [] la (record { none = λ _. refl; some = λ h. absurd (omega arith) }) wa (sym ea)) in
+        let other : r' ≡ min b.len (length (added_once la lb) - length la) = rw (cuts_same a.lent.shape b lb few wb) at (y.right la lb (held_shown a la ea wa) wb (sym eb)) in
         omega (arith, own, other, once_length [] la, once_length la lb, once_alike (added_once [] la) la lb (λ g. omega (arith, copies_once g [] la, copies_nil g)))

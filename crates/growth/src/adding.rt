@@ -12,7 +12,7 @@ use layout::shape::Shape;
 fn absent(a: Source, hash: u64) -> bool
     ensures { Lacks a.entry hash result }
 {
-    match find_hash(a.buf, a.shape, hash) {
+    match find_hash(&a.lent, hash) {
         Lookup::Held(_) => false,
         Lookup::Absent(_) => true,
     }
@@ -33,9 +33,9 @@ fn unmet(b: Source, shape: Shape, k: u64, f: u64) -> bool
     requires { Widths shape.qbits shape.rbits }
     ensures { Unmet b.entry shape k f result }
 {
-    let mut place = first_place(b.buf, b.shape, b.len);
+    let mut place = first_place(&b.lent, b.len);
     for i in 0..k {
-        let stepped = step_core(b.buf, b.shape, place);
+        let stepped = step_core(&b.lent, place);
         let Ok(Some(g)) = stepped.step else {
             return false;
         };
@@ -59,10 +59,10 @@ fn is_new(a: Source, b: Source, k: u64, before: u64, f: u64) -> bool
     if 0 < a.len && !absent(a, f) {
         return false;
     }
-    if b.shape.qbits + b.shape.rbits <= a.shape.qbits + a.shape.rbits {
+    if b.lent.shape.qbits + b.lent.shape.rbits <= a.lent.shape.qbits + a.lent.shape.rbits {
         return true;
     }
-    unmet(b, a.shape, k, cut(a.shape, f))
+    unmet(b, a.lent.shape, k, cut(a.lent.shape, f))
 }
 
 // How many fingerprints of b, cut to the width of a, are added to a: `enough` at most. With len 0 nothing is held in a.
@@ -70,14 +70,14 @@ fn is_new(a: Source, b: Source, k: u64, before: u64, f: u64) -> bool
 pub fn count_added(a: Source, b: Source, enough: u64) -> u64
     ensures { Adds a.entry b.entry enough result }
 {
-    let mut place = first_place(b.buf, b.shape, b.len);
+    let mut place = first_place(&b.lent, b.len);
     let mut count = 0;
     let mut before = 0;
     for k in 0..b.len {
         if enough <= count {
             return count;
         }
-        let stepped = step_core(b.buf, b.shape, place);
+        let stepped = step_core(&b.lent, place);
         let Ok(Some(f)) = stepped.step else {
             return count;
         };

@@ -43,12 +43,12 @@ fn put_step(
 #[tactic(auto, using(crate::specs::Take::takes_first))]
 pub fn take_in(list: Source, dest: &mut [u8], shape: Shape, len: u64, max_count: u64) -> u64
     requires { (Whole shape (length dest.old)) × (len + list.len < 2 ^ 64) }
-    ensures { TakesIn list.entry.shape list.entry.buf.now list.entry.len shape dest.old len max_count result dest.new }
+    ensures { TakesIn list.entry.lent.shape list.entry.lent.buf.now list.entry.len shape dest.old len max_count result dest.new }
 {
-    let mut place = first_place(list.buf, list.shape, list.len);
+    let mut place = first_place(&list.lent, list.len);
     let mut held = len;
     for _step in 0..list.len {
-        let stepped = step_core(list.buf, list.shape, place);
+        let stepped = step_core(&list.lent, place);
         held = put_step(dest, shape, held, stepped.step, max_count);
         place = stepped.place;
     }

@@ -10,10 +10,10 @@ use layout::refusal::Refusal;
 // Number 7 if an added copy would pass capacity: nothing is counted where all of b fit, and no more than what passes.
 #[tactic(auto, using(theory::specs::images::Sizes::slots_high))]
 pub fn wider_due(a: Source, b: Source, keep: u64) -> Result<(), Refusal>
-    requires { a.len ≤ capacity a.shape.qbits }
+    requires { a.len ≤ capacity a.lent.shape.qbits }
     ensures { WiderDue a.entry b.entry keep result }
 {
-    let enough = a.shape.capacity() - a.len + 1;
+    let enough = a.lent.shape.capacity() - a.len + 1;
     if b.len < enough {
         return Ok(());
     }

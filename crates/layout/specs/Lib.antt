@@ -1,6 +1,7 @@
 -- The promises of layout, and what is said of a record.
 pub mod Fresh
 pub mod Judging
+pub mod Lent
 pub mod Outcomes
 pub mod Pinned
 pub mod Plans

@@ -1,12 +1,12 @@
 // The check: does the record pass numbers 1 to 5, and are its bytes those of some holding, of len fingerprints? It walks the blocks twice with a
 // cursor by value and keeps nothing else.
-ghost use Rattle.std.specs.Prelude.{◌≡◌, ◌*◌, length};
+ghost use Rattle.std.specs.Prelude.{◌≡◌, ◌*◌};
 ghost use Rattle.theory.specs.Shape.{blocks, Widths};
 ghost use Rattle.theory.specs.check.Buffer.{steps_on};
-ghost use Rattle.layout.specs.Whole.{Whole};
 ghost use Rattle.layout.specs.Walk.{cur, Fits};
 ghost use Rattle.layout.specs.Verdicts.{Answered, Judged, JudgedBoth};
 
+use crate::blocks::Blocks;
 use crate::check::step::Cursor;
 use crate::numbers::{Numbers, number_due};
 use crate::refusal::Refusal;
@@ -16,16 +16,17 @@ mod flag;
 pub mod step;
 
 // As many blocks as the budget says, or as are left.
-fn go_on(buf: &[u8], shape: Shape, budget: u64, c: Cursor) -> Cursor
-    requires { (Whole shape (length buf.now)) × (Fits (2 * blocks shape.qbits) c) }
-    ensures { (cur result ≡ steps_on shape.qbits shape.rbits buf.now budget (cur c)) × (Fits (2 * blocks shape.qbits) result) }
+#[tactic(auto, using(theory::specs::check::Loops::steps_next, theory::specs::check::Loops::steps_early), unfolding(theory::specs::check::Step::steps))]
+fn go_on(lent: &Blocks, budget: u64, c: Cursor) -> Cursor
+    requires { Fits (2 * blocks lent.now.shape.qbits) c }
+    ensures { (cur result ≡ steps_on lent.now.shape.qbits lent.now.shape.rbits lent.now.buf.now budget (cur c)) × (Fits (2 * blocks lent.now.shape.qbits) result) }
 {
     let mut at = c;
     for _ in 0..budget {
-        if 2 * shape.blocks() <= at.passed {
+        if 2 * lent.shape.blocks() <= at.passed {
             return at;
         }
-        at = step::step(buf, shape, at);
+        at = step::step(lent, at);
     }
     at
 }
@@ -55,9 +56,9 @@ pub fn check(buf: &[u8], n: Numbers) -> Result<(), Refusal>
     ensures { Judged n buf.now result }
 {
     number_due(buf.len(), n)?;
-    let shape = n.shape();
-    let c = go_on(buf, shape, 2 * shape.blocks(), Cursor::begin());
-    answer(shape, n.len, c)
+    let lent = Blocks::of(buf, n);
+    let c = go_on(&lent, 2 * lent.shape.blocks(), Cursor::begin());
+    answer(lent.shape, n.len, c)
 }
 
 // Both filters sound, or the lowest number that is due of the first, or of the second.

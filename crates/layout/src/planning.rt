@@ -31,6 +31,7 @@ pub fn capacity_of(qbits: u8) -> u64
 }
 
 // The smallest width, 6 or more, whose capacity suffices.
+#[tactic(auto, using(theory::specs::plan::Needed::width_here, theory::specs::plan::Needed::width_step, theory::specs::plan::Needed::width_end), unfolding(theory::specs::Planning::needed_qbits))]
 fn width_for(capacity: u64) -> u8
     ensures { (result ≡ needed_qbits capacity) × (6 ≤ result) × (result ≤ 59) }
 {
@@ -53,6 +54,7 @@ pub fn needed_qbits(capacity: u64) -> Result<u8, Refusal>
 }
 
 // The first k from 1 to 64 for which 2 ^ -k is not above the rate. What is not a number is below nothing.
+#[tactic(auto, using(theory::specs::plan::Rates::halve, theory::specs::plan::Rates::half_bits, theory::specs::plan::Rates::halvings_here, theory::specs::plan::Rates::halvings_step, theory::specs::plan::Rates::halvings_end), unfolding(theory::specs::Planning::rbits_for))]
 pub fn rbits_for(rate: f64) -> u8
     ensures { (result ≡ rbits_for rate) × (1 ≤ result) × (result ≤ 64) }
 {
@@ -68,6 +70,7 @@ pub fn rbits_for(rate: f64) -> u8
 }
 
 // 2 ^ -rbits, exactly.
+#[tactic(auto, using(theory::specs::plan::Rates::halve, theory::specs::plan::Rates::half_bits, theory::specs::plan::Rates::one_bits))]
 fn max_error_ratio(rbits: u8) -> f64
     requires { rbits ≤ 64 }
     ensures { result ≡ half_pow rbits }
@@ -80,6 +83,7 @@ fn max_error_ratio(rbits: u8) -> f64
 }
 
 // rbits + 2.125, exactly.
+#[tactic(auto, using(theory::specs::plan::Rates::per_item_lem))]
 fn bits_per_item(rbits: u8) -> f64
     requires { rbits < 64 }
     ensures { result ≡ per_item rbits }

@@ -3,7 +3,8 @@ ghost use Rattle.std.specs.Prelude.{◌+◌, ◌^◌, ◌<◌, ◌≤◌, length
 ghost use Rattle.theory.specs.Shape.{slots, blocks};
 ghost use Rattle.theory.specs.number.Bytes.{le};
 ghost use Rattle.theory.specs.writing.Inserting.{Wrote};
-ghost use Rattle.layout.specs.Whole.{Whole, views_in};
+ghost use Rattle.layout.specs.Whole.{Whole};
+ghost use Rattle.layout.specs.Lent.{slots_of, views_of};
 ghost use Rattle.writing.specs.CopyIn.{Scanned, SpotFor};
 ghost use Rattle.writing.specs.Insert.{InsertsCore};
 
@@ -11,6 +12,7 @@ use crate::shift;
 use bits::compare::equal;
 use filter::lookup::{quotient, remainder};
 use filter::runs::{first_free, run_start, unrolled};
+use layout::blocks::Blocks;
 use layout::refusal::Refusal;
 use layout::shape::Shape;
 use layout::slot;
@@ -39,36 +41,36 @@ pub enum Insertion {
 }
 
 // The place that one copy more of `rem` takes in the run that starts at slot `at`, left from inside once a larger remainder or the run's end is met.
-fn scan(buf: &[u8], shape: Shape, at: u64, rem: u64) -> Stop
-    requires { (Whole shape (length buf.now)) × (at < slots shape.qbits) }
-    ensures { Scanned (slots shape.qbits) (views_in shape buf.now) at rem result }
+fn scan(lent: &Blocks, at: u64, rem: u64) -> Stop
+    requires { at < slots_of lent.now }
+    ensures { Scanned (slots_of lent.now) (views_of lent.now) at rem result }
 {
-    let slots = shape.slots();
+    let slots = lent.shape.slots();
     let mut k = 0;
     let mut copies = 0;
     // Kept: a scan of a run's slots is a loop left by break.
     loop {
         let s = (at + k) % slots;
-        let here = slot::get_remainder(buf, shape, s);
+        let here = lent.get_remainder(s);
         if rem < here {
             break Stop::Inside(k, copies);
         }
         k += 1;
         copies += equal(here, rem);
-        if slot::is_runend(buf, shape, s) == 1 || k == slots {
+        if lent.is_runend(s) == 1 || k == slots {
             break Stop::AtEnd(k, copies);
         }
     }
 }
 
 // Where one copy more goes: into a run that it makes, inside the run, or at its end.
-fn find_spot(buf: &[u8], shape: Shape, x: u64, rem: u64) -> Spot
-    requires { (Whole shape (length buf.now)) × (x < slots shape.qbits) }
-    ensures { SpotFor shape buf.now x rem result }
+fn find_spot(lent: &Blocks, x: u64, rem: u64) -> Spot
+    requires { x < slots_of lent.now }
+    ensures { SpotFor lent.now.shape lent.now.buf.now x rem result }
 {
-    let at = run_start(buf, shape, x);
-    let first = unrolled(at, x, shape.slots());
-    if slot::is_occupied(buf, shape, x) == 0 {
+    let at = run_start(lent, x);
+    let first = unrolled(at, x, lent.shape.slots());
+    if lent.is_occupied(x) == 0 {
         return Spot {
             slot: first,
             bit_slot: first,
@@ -76,7 +78,7 @@ fn find_spot(buf: &[u8], shape: Shape, x: u64, rem: u64) -> Spot
             copies: 0,
         };
     }
-    match scan(buf, shape, at, rem) {
+    match scan(lent, at, rem) {
         Stop::Inside(place, copies) => Spot {
             slot: first + place,
             bit_slot: first + place,
@@ -125,14 +127,15 @@ pub fn insert_core(
 {
     let x = quotient(shape, hash);
     let rem = remainder(shape, hash);
-    let spot = find_spot(buf, shape, x, rem);
+    let lent = Blocks { buf, shape };
+    let spot = find_spot(&lent, x, rem);
     if max_count <= spot.copies {
         return Ok(Insertion::Enough(max_count));
     }
     if shape.capacity() <= len {
         return Err(Refusal::NoRoom);
     }
-    let Some(e) = first_free(buf, shape, x) else {
+    let Some(e) = first_free(&lent, x) else {
         return Err(Refusal::NotSound);
     };
     if e < spot.slot {

@@ -4,7 +4,8 @@ ghost use Rattle.theory.specs.Shape.{slots, blocks};
 ghost use Rattle.theory.specs.number.Bytes.{le};
 ghost use Rattle.theory.specs.carry.CarryMore.{upto};
 ghost use Rattle.theory.specs.writing.Removing.{TookOut};
-ghost use Rattle.layout.specs.Whole.{Whole, views_in};
+ghost use Rattle.layout.specs.Whole.{Whole};
+ghost use Rattle.layout.specs.Lent.{slots_of, views_of};
 ghost use Rattle.writing.specs.CopyOut.{LastSeen, GoingFor};
 ghost use Rattle.writing.specs.Shifted.{ShiftedFrom, Renews};
 ghost use Rattle.writing.specs.Remove.{WroteOut, RemovesCore};
@@ -13,6 +14,7 @@ use crate::shift;
 use bits::compare::{lesser, over};
 use filter::lookup::{quotient, remainder};
 use filter::runs::{next_carry, offset, past_run, run_start, unrolled};
+use layout::blocks::Blocks;
 use layout::refusal::Refusal;
 use layout::shape::Shape;
 use layout::slot;
@@ -27,21 +29,21 @@ pub struct GoingCopy {
 
 // The last remainder equal to `rem` in the run that starts at slot `at`: its place, from 0, and how many places the run has; or none equal.
 #[tactic(auto, using(crate::specs::CopyOut::looking_none))]
-fn last_equal(buf: &[u8], shape: Shape, at: u64, rem: u64) -> Option<(u64, u64)>
-    requires { (Whole shape (length buf.now)) × (at < slots shape.qbits) }
-    ensures { LastSeen (slots shape.qbits) (views_in shape buf.now) at rem result }
+fn last_equal(lent: &Blocks, at: u64, rem: u64) -> Option<(u64, u64)>
+    requires { at < slots_of lent.now }
+    ensures { LastSeen (slots_of lent.now) (views_of lent.now) at rem result }
 {
-    let slots = shape.slots();
+    let slots = lent.shape.slots();
     let mut k = 0;
     let mut last = None;
     // Kept: a scan of a run's slots is a loop left by break.
     loop {
         let s = (at + k) % slots;
-        if slot::get_remainder(buf, shape, s) == rem {
+        if lent.get_remainder(s) == rem {
             last = Some(k);
         }
         k += 1;
-        if slot::is_runend(buf, shape, s) == 1 || k == slots {
+        if lent.is_runend(s) == 1 || k == slots {
             break Some((last?, k));
         }
     }
@@ -55,19 +57,19 @@ fn bit_place(place: u64, size: u64) -> u64
 }
 
 // Which copy goes: the last equal one of the run, or none.
-fn find_copy(buf: &[u8], shape: Shape, x: u64, rem: u64) -> Option<GoingCopy>
-    requires { (Whole shape (length buf.now)) × (x < slots shape.qbits) }
-    ensures { GoingFor shape buf.now x rem result }
+fn find_copy(lent: &Blocks, x: u64, rem: u64) -> Option<GoingCopy>
+    requires { x < slots_of lent.now }
+    ensures { GoingFor lent.now.shape lent.now.buf.now x rem result }
 {
-    if slot::is_occupied(buf, shape, x) == 0 {
+    if lent.is_occupied(x) == 0 {
         return None;
     }
-    let at = run_start(buf, shape, x);
+    let at = run_start(lent, x);
     // Kept: a miss of a scan is taken apart by let .. else and left at once.
-    let Some((place, size)) = last_equal(buf, shape, at, rem) else {
+    let Some((place, size)) = last_equal(lent, at, rem) else {
         return None;
     };
-    let first = unrolled(at, x, shape.slots());
+    let first = unrolled(at, x, lent.shape.slots());
     Some(GoingCopy {
         slot: first + place,
         bit_slot: first + bit_place(place, size),
@@ -77,15 +79,15 @@ fn find_copy(buf: &[u8], shape: Shape, x: u64, rem: u64) -> Option<GoingCopy>
 
 // The last slot that is shifted from slot x on, not taken round the end: from each slot on to the last that its run fills.
 #[tactic(auto, using(crate::specs::Shifted::moving_none, crate::specs::Shifted::moving_missed, crate::specs::Shifted::moving_round))]
-fn last_shifted(buf: &[u8], shape: Shape, x: u64) -> Option<u64>
-    requires { (Whole shape (length buf.now)) × (x < slots shape.qbits) }
-    ensures { ShiftedFrom (slots shape.qbits) (views_in shape buf.now) x result }
+fn last_shifted(lent: &Blocks, x: u64) -> Option<u64>
+    requires { x < slots_of lent.now }
+    ensures { ShiftedFrom (slots_of lent.now) (views_of lent.now) x result }
 {
-    let slots = shape.slots();
+    let slots = lent.shape.slots();
     let mut s = x;
     // Kept: it does not count, it jumps from run to run.
     while s < x + slots {
-        let gap = past_run(buf, shape, s)?;
+        let gap = past_run(lent, s)?;
         if gap == 1 {
             return Some(s);
         }
@@ -129,7 +131,7 @@ fn renew_offsets(buf: &mut [u8], shape: Shape, a: u64, k: u64, o: u64) -> Result
     let blocks = shape.blocks();
     let mut carry = o;
     for j in 0..k {
-        let Some(next) = next_carry(buf, shape, (a + j) % blocks, carry) else {
+        let Some(next) = next_carry(&Blocks { buf, shape }, (a + j) % blocks, carry) else {
             return Err(Refusal::NotSound);
         };
         slot::set_offset_byte(buf, shape, (a + j + 1) % blocks, lesser(next, 255));
@@ -145,7 +147,7 @@ fn write_out(buf: &mut [u8], shape: Shape, x: u64, copy: GoingCopy, e: u64) -> R
     ensures { WroteOut shape.rbits (slots shape.qbits) (blocks shape.qbits) x copy e (le buf.old) result (le buf.new) }
 {
     let b = x / 64;
-    let o = carry_without(offset(buf, shape, b), 64 * b + shape.slots(), e);
+    let o = carry_without(offset(&Blocks { buf, shape }, b), 64 * b + shape.slots(), e);
     take(buf, shape, x, copy, e);
     renew_offsets(buf, shape, b, e / 64 - b, o)
 }
@@ -157,10 +159,11 @@ pub fn remove_core(buf: &mut [u8], shape: Shape, hash: u64) -> Result<bool, Refu
 {
     let x = quotient(shape, hash);
     let rem = remainder(shape, hash);
-    let Some(copy) = find_copy(buf, shape, x, rem) else {
+    let lent = Blocks { buf, shape };
+    let Some(copy) = find_copy(&lent, x, rem) else {
         return Ok(false);
     };
-    let Some(e) = last_shifted(buf, shape, x) else {
+    let Some(e) = last_shifted(&lent, x) else {
         return Err(Refusal::NotSound);
     };
     if e < copy.slot {

@@ -8,6 +8,7 @@ ghost use Rattle.theory.specs.writing.RaisedOffsets.{bump};
 ghost use Rattle.layout.specs.Whole.{Whole};
 
 use bits::compare::lesser;
+use layout::blocks::Blocks;
 use layout::shape::Shape;
 use layout::slot;
 
@@ -19,7 +20,7 @@ pub fn put_in(buf: &mut [u8], shape: Shape, d: usize, w: u64, a: u64, e: u64, v:
 {
     let slots = shape.slots();
     for t in (a..e).rev() {
-        let c = slot::get_cell(buf, shape, d, w, t % slots);
+        let c = Blocks { buf, shape }.get_cell(d, w, t % slots);
         slot::set_cell(buf, shape, d, w, (t + 1) % slots, c);
     }
     slot::set_cell(buf, shape, d, w, a % slots, v);
@@ -33,7 +34,7 @@ pub fn take_out(buf: &mut [u8], shape: Shape, d: usize, w: u64, a: u64, e: u64)
 {
     let slots = shape.slots();
     for t in a..e {
-        let c = slot::get_cell(buf, shape, d, w, (t + 1) % slots);
+        let c = Blocks { buf, shape }.get_cell(d, w, (t + 1) % slots);
         slot::set_cell(buf, shape, d, w, t % slots, c);
     }
     slot::set_cell(buf, shape, d, w, e % slots, 0);
@@ -54,7 +55,7 @@ pub fn inc_offsets(buf: &mut [u8], shape: Shape, a: u64, k: u64)
 {
     let blocks = shape.blocks();
     for b in a..a + k {
-        let byte = slot::offset_byte(buf, shape, (b + 1) % blocks);
+        let byte = Blocks { buf, shape }.offset_byte((b + 1) % blocks);
         slot::set_offset_byte(buf, shape, (b + 1) % blocks, counted_up(byte));
     }
 }

@@ -1,4 +1,5 @@
 // The tests of a slot, with 1 for one that fails and 0 for one that passes.
+// Kept: numbers and no bool, as the cursor and the theory's step have them, so that a round of the check has no branch.
 ghost use Rattle.std.specs.Prelude.{◌≡◌, ◌+◌, ◌^◌, ◌<◌, min};
 ghost use Rattle.theory.specs.check.Step.{fault, differ};
 ghost use Rattle.theory.specs.check.Loops.{most};
@@ -13,6 +14,7 @@ pub fn either(a: u64, b: u64) -> u64
 }
 
 // 1 if the two are not equal, else 0.
+#[tactic(auto, unfolding(theory::specs::check::Step::differ))]
 pub fn differs(a: u64, b: u64) -> u64
     ensures { result ≡ min 1 (differ a b) }
 {
@@ -21,6 +23,7 @@ pub fn differs(a: u64, b: u64) -> u64
 
 // The most that a slot's remainder may be, with p runs pending on it: 0 if it is unused, the next one's inside a run, and anything (below 2^64) at a
 // run's end.
+#[tactic(auto, using(theory::specs::tools::Choose::choose_yes, theory::specs::tools::Choose::choose_no), unfolding(theory::specs::check::Loops::most))]
 fn highest(p: u64, e: u64, next: u64) -> u64
     ensures { result ≡ most p e next }
 {
@@ -31,6 +34,7 @@ fn highest(p: u64, e: u64, next: u64) -> u64
 }
 
 // 1 if a slot fails its tests, with p pending before it: its bits o and e, its remainder and the next slot's.
+#[tactic(auto, using(theory::specs::check::Loops::fails))]
 pub fn slot_fails(p: u64, o: u64, e: u64, remainder: u64, next: u64) -> u64
     requires { (p < 2 ^ 63) × (o < 2) × (e < 2) }
     ensures { result ≡ min 1 (fault p o e remainder next) }

@@ -7,4 +7,4 @@ pub returns : goal.returns
 returns c =
     let a = c.args in
     let h = c.in_ok-check.ensures in
-    checked_sound a.n _ _ _ h (λ l. counted a.n a.buf.now l a.hash _ (clear_whole a.n a.buf.now h.none).widths (rw c.shape.ensures at c.count_hash.ensures))
+    checked_sound a.n _ _ _ h (λ l. counted a.n a.buf.now l a.hash _ (clear_whole a.n a.buf.now h.none).widths (rw (c.of.ensures.0, c.of.ensures.1) at c.count_hash.ensures))

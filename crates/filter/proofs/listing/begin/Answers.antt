@@ -7,4 +7,4 @@ pub returns : goal.returns
 returns c =
     let a = c.args in
     let h = c.in_ok-check.ensures in
-    checked_sound a.n a.buf.now _ _ h (begins_at a.n a.buf.now h.none _ (rw c.shape.ensures at c.first_place.ensures))
+    checked_sound a.n a.buf.now _ _ h (begins_at a.n a.buf.now h.none _ (rw (c.of.ensures.0, c.of.ensures.1) at c.first_place.ensures))

@@ -6,4 +6,4 @@ pub returns : goal.returns
 returns c =
     let a = c.args in
     let h = c.in-Some.ensures in
-    found_first a.shape a.buf.now a.len _ _ h.1 h.2 h.3 c.run_start.ensures
+    found_first a.lent.now.shape a.lent.now.buf.now a.len _ _ h.1 h.2 h.3 c.run_start.ensures

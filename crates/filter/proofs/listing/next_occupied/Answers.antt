@@ -11,7 +11,7 @@ pub returns-in-Some : goal.returns-in-Some
 returns-in-Some c =
     let h = rw c.occupieds.ensures at c.in-Some.ensures in
     let i = c.loop-b.invariant in
-    (omega arith, omega (arith, slots_blocks _ c.requires.0.widths.low), sym (word_bit _ 1 _ c.loop-b.b _ h.1) ∙ h.2, vacant_word _ _ _ c.loop-b.b c.loop-b.skip _ (omega arith) i.2 h.3)
+    (omega arith, omega (arith, slots_blocks _ c.args.lent.now.whole.widths.low), sym (word_bit _ 1 _ c.loop-b.b _ h.1) ∙ h.2, vacant_word _ _ _ c.loop-b.b c.loop-b.skip _ (omega arith) i.2 h.3)
 
 pub loop-b-preserved : goal.loop-b-preserved
 loop-b-preserved c =

@@ -5,4 +5,4 @@ use Rattle.filter.specs.Occupied.{Vacant}
 use Rattle.filter.proofs.listing.next_occupied.Given as goal
 
 abbrev pub invariant-loop-b : goal.invariant-loop-b
-invariant-loop-b l = (l.from ≤ 64 * l.b + l.skip) × (l.skip < 64) × Vacant (views_in l.shape l.buf) l.from (64 * l.b + l.skip)
+invariant-loop-b l = (l.from ≤ 64 * l.b + l.skip) × (l.skip < 64) × Vacant (views_in l.lent.shape l.lent.buf.now) l.from (64 * l.b + l.skip)

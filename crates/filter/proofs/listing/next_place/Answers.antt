@@ -6,9 +6,9 @@ use Rattle.filter.proofs.listing.next_place.Goals as goal
 pub returns-then-left-eq0 : goal.returns-then-left-eq0
 returns-then-left-eq0 c =
     let a = c.args in
-    rw c.none_left.ensures (none_moves a.shape a.buf.now a.x a.s a.left c.if-left-eq0.true)
+    rw c.none_left.ensures (none_moves a.lent.now.shape a.lent.now.buf.now a.x a.s a.left c.if-left-eq0.true)
 
 pub returns : goal.returns
 returns c =
     let a = c.args in
-    inner_moves a.shape a.buf.now a.x a.s a.left _ (λ e. c.if-is_runend-eq1.false (c.is_runend.ensures.0 ∙ e)) (rw c.slots.ensures.0 at c.wrapped.ensures)
+    inner_moves a.lent.now.shape a.lent.now.buf.now a.x a.s a.left _ (λ e. c.if-is_runend-eq1.false (c.is_runend.ensures.0 ∙ e)) (rw c.slots.ensures.0 at c.wrapped.ensures)

@@ -8,4 +8,4 @@ returns c =
     let a = c.args in
     let q = c.quotient-x.ensures in
     λ l w. rw (← q.0, ← c.remainder.ensures.0)
-    (c.first_equal.ensures.right _ (shown_run a.shape a.buf.now l w _ q.1 _ (λ z. c.if-is_occupied-eq0.false (c.is_occupied.ensures.0 ∙ z)) c.run_start-at.ensures) (shown_few a.shape a.buf.now l w _ q.1))
+    (c.first_equal.ensures.right _ (shown_run a.lent.now.shape a.lent.now.buf.now l w _ q.1 _ (λ z. c.if-is_occupied-eq0.false (c.is_occupied.ensures.0 ∙ z)) c.run_start-at.ensures) (shown_few a.lent.now.shape a.lent.now.buf.now l w _ q.1))

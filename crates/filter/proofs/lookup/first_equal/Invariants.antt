@@ -4,8 +4,8 @@ use Rattle.layout.specs.Whole.{views_in}
 use Rattle.filter.specs.Scan.{Passing}
 use Rattle.filter.proofs.lookup.first_equal.Given as goal
 
-abbrev pub invariant-loop-shape : goal.invariant-loop-shape
-invariant-loop-shape l = (l.k < l.slots) × Passing l.slots (views_in l.shape l.buf) l.at l.rem l.k
+abbrev pub invariant-loop-s : goal.invariant-loop-s
+invariant-loop-s l = (l.k < l.slots) × Passing l.slots (views_in l.lent.shape l.lent.buf.now) l.at l.rem l.k
 
-abbrev pub decreases-loop-shape : goal.decreases-loop-shape
-decreases-loop-shape l = l.slots - l.k
+abbrev pub decreases-loop-s : goal.decreases-loop-s
+decreases-loop-s l = l.slots - l.k

@@ -13,6 +13,6 @@ returns c =
     record {
       within = omega arith;
       tells = λ p. absurd (omega arith);
-      none = λ z. back_all (blocks a.shape.qbits) a.b (λ d. 255 ≤ offset_at a.shape.rbits (le a.buf.now) d) c.requires.1
+      none = λ z. back_all (blocks a.lent.now.shape.qbits) a.b (λ d. 255 ≤ offset_at a.lent.now.shape.rbits (le a.lent.now.buf.now) d) c.requires
           (λ j d f. rw c.blocks-blocks.ensures.0 at (c.loop-k.invariant j d (omega arith)));
     }

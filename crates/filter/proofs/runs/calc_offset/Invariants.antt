@@ -6,4 +6,4 @@ use Rattle.theory.specs.reading.Walks.{Tells}
 use Rattle.filter.proofs.runs.calc_offset.Given as goal
 
 abbrev pub invariant-loop-j : goal.invariant-loop-j
-invariant-loop-j l = (l.o ≤ 2 ^ 60) × Tells (slots l.shape.qbits) (views_in l.shape l.buf) l.j l.o
+invariant-loop-j l = (l.o ≤ 2 ^ 60) × Tells (slots l.lent.shape.qbits) (views_in l.lent.shape l.lent.buf.now) l.j l.o

@@ -11,5 +11,5 @@ returns-then-gap-is_runend-eq1 c =
 pub loop-s-preserved : goal.loop-s-preserved
 loop-s-preserved c =
     let d = c.in_ok-gap.ensures in
-    let high = slots_high _ c.requires.0.widths.high in
+    let high = slots_high _ c.args.lent.now.whole.widths.high in
     (omega (arith, d.bound), omega (arith, d.bound), walked_on _ _ _ c.loop-s.s c.loop-s.invariant.2 _ _ d (rw c.slots-slots.ensures.0 at c.is_runend.ensures.0) c.if-gap-is_runend-eq1.false)

@@ -6,7 +6,7 @@ use Rattle.filter.specs.Offsets.{next_found, next_large}
 use Rattle.filter.proofs.runs.next_carry.Goals as goal
 
 pub returns-then-slots-next : goal.returns-then-slots-next
-returns-then-slots-next c = next_large _ (blocks-of c.args.shape.qbits) _ (slots_blocks _ c.requires.0.widths.low) _ _ _ c.in_ok-s.ensures (omega (arith, c.slots.ensures.0))
+returns-then-slots-next c = next_large _ (blocks-of c.args.lent.now.shape.qbits) _ (slots_blocks _ c.args.lent.now.whole.widths.low) _ _ _ c.in_ok-s.ensures (omega (arith, c.slots.ensures.0))
 
 pub returns : goal.returns
-returns c = next_found _ (blocks-of c.args.shape.qbits) _ (slots_blocks _ c.requires.0.widths.low) _ _ _ c.in_ok-s.ensures (omega (arith, c.slots.ensures.0))
+returns c = next_found _ (blocks-of c.args.lent.now.shape.qbits) _ (slots_blocks _ c.args.lent.now.whole.widths.low) _ _ _ c.in_ok-s.ensures (omega (arith, c.slots.ensures.0))

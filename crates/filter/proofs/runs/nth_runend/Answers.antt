@@ -8,10 +8,10 @@ pub returns-in-End : goal.returns-in-End
 returns-in-End c =
     let h = rw c.runends.ensures at c.in-End.ensures in
     let i = c.loop-k.invariant in
-    let w = slots_counted _ _ c.requires.0.widths.low c.blocks-blocks.ensures.0 in
+    let w = slots_counted _ _ c.args.lent.now.whole.widths.low c.blocks-blocks.ensures.0 in
     (omega arith, omega arith, walk_bit _ 9 _ _ _ c.loop-k.k c.loop-k.skip c.loop-k.left _ w (omega arith) (omega arith) i.2 _ h.1 h.2, walk_end _ 9 _ _ _ c.loop-k.k c.loop-k.skip c.loop-k.left _ w (omega arith) (omega arith) i.2 _ h.1 h.3)
 
 pub loop-k-preserved : goal.loop-k-preserved
 loop-k-preserved c =
     let i = c.loop-k.invariant in
-    (omega arith, omega arith, walk_on _ 9 _ _ _ c.loop-k.k c.loop-k.skip c.loop-k.left _ (slots_counted _ _ c.requires.0.widths.low c.blocks-blocks.ensures.0) (omega arith) (omega arith) i.2 _ (rw c.runends.ensures at c.in-On.ensures))
+    (omega arith, omega arith, walk_on _ 9 _ _ _ c.loop-k.k c.loop-k.skip c.loop-k.left _ (slots_counted _ _ c.args.lent.now.whole.widths.low c.blocks-blocks.ensures.0) (omega arith) (omega arith) i.2 _ (rw c.runends.ensures at c.in-On.ensures))

@@ -8,4 +8,4 @@ use Rattle.theory.specs.reading.Ring.{ring_at}
 use Rattle.filter.proofs.runs.nth_runend.Given as goal
 
 abbrev pub invariant-loop-k : goal.invariant-loop-k
-invariant-loop-k l = (l.skip < 64) × (l.at ≤ 64 * l.k + l.skip) × (total (ring_at l.shape.rbits 9 (slots l.shape.qbits) (le l.buf)) (64 * l.k + l.skip) + l.left ≡ total (ring_at l.shape.rbits 9 (slots l.shape.qbits) (le l.buf)) l.at + l.n)
+invariant-loop-k l = (l.skip < 64) × (l.at ≤ 64 * l.k + l.skip) × (total (ring_at l.lent.shape.rbits 9 (slots l.lent.shape.qbits) (le l.lent.buf.now)) (64 * l.k + l.skip) + l.left ≡ total (ring_at l.lent.shape.rbits 9 (slots l.lent.shape.qbits) (le l.lent.buf.now)) l.at + l.n)

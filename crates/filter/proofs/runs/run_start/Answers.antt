@@ -10,26 +10,26 @@ use Rattle.filter.proofs.runs.run_start.Goals as goal
 use Rattle.filter.proofs.runs.run_start.Goals.{Else-begun-over}
 
 -- so many runs are pending before the slot of x
-pending : (c : Else-begun-over) → Pending (slots c.args.shape.qbits) (views_in c.args.shape c.args.buf.now) c.args.x (c.ones_below-begun.result - c.ones_between-over.result)
+pending : (c : Else-begun-over) → Pending (slots c.args.lent.now.shape.qbits) (views_in c.args.lent.now.shape c.args.lent.now.buf.now) c.args.x (c.ones_below-begun.result - c.ones_between-over.result)
 pending c =
-    pending_near _ _ _ _ _ (slots_blocks _ c.requires.0.widths.low) c.requires.1 _ _ _ c.offset_byte-o.ensures.0 (omega arith)
+    pending_near _ _ _ _ _ (slots_blocks _ c.args.lent.now.whole.widths.low) c.requires _ _ _ c.offset_byte-o.ensures.0 (omega arith)
     (rw c.occupieds.ensures at c.ones_below-begun.ensures.0) (rw c.runends-word.ensures at c.ones_between-over.ensures.0) (omega arith)
 
 -- and the word that is selected from is the block's
-from : (c : Else-begun-over) → c.runends-word.result / 2 ^ (c.args.x % 64) * 2 ^ 1 % 2 ^ 64 + 1 ≡ word_at c.args.shape.rbits 9 (le c.args.buf.now) (c.args.x / 64) / 2 ^ (c.args.x % 64) * 2 ^ 1 % 2 ^ 64 + 1
+from : (c : Else-begun-over) → c.runends-word.result / 2 ^ (c.args.x % 64) * 2 ^ 1 % 2 ^ 64 + 1 ≡ word_at c.args.lent.now.shape.rbits 9 (le c.args.lent.now.buf.now) (c.args.x / 64) / 2 ^ (c.args.x % 64) * 2 ^ 1 % 2 ^ 64 + 1
 from c = ap (λ w. w / 2 ^ (c.args.x % 64) * 2 ^ 1 % 2 ^ 64 + 1) c.runends-word.ensures
 
 pub returns-then-begun-over : goal.returns-then-begun-over
 returns-then-begun-over c =
-    never_near _ _ _ _ _ (slots_blocks _ c.requires.0.widths.low) c.requires.1 _ _ _ c.offset_byte-o.ensures.0 (omega arith)
+    never_near _ _ _ _ _ (slots_blocks _ c.args.lent.now.whole.widths.low) c.requires _ _ _ c.offset_byte-o.ensures.0 (omega arith)
     (rw c.occupieds.ensures at c.ones_below-begun.ensures.0) (rw c.runends-word.ensures at c.ones_between-over.ensures.0) (omega arith)
 
 pub start_past-requires : goal.start_past-requires
 start_past-requires c =
     let p = (goal.at.start_past-requires c).Else-begun-over in
-    (c.requires.0, c.requires.1, some_near _ _ _ _ _ (slots_blocks _ c.requires.0.widths.low) c.requires.1 _ _ (from p) (pending p) c.in_default.ensures, pending p)
+    (c.requires, some_near _ _ _ _ _ (slots_blocks _ c.args.lent.now.whole.widths.low) c.requires _ _ (from p) (pending p) c.in_default.ensures, pending p)
 
 pub returns : goal.returns
 returns c =
     let p = (goal.at.returns c).Else-begun-over in
-    rw c.slots.ensures.0 (start_near _ _ _ _ _ (slots_blocks _ c.requires.0.widths.low) c.requires.1 _ _ (from p) (pending p) _ c.in-Some.ensures)
+    rw c.slots.ensures.0 (start_near _ _ _ _ _ (slots_blocks _ c.args.lent.now.whole.widths.low) c.requires _ _ (from p) (pending p) _ c.in-Some.ensures)

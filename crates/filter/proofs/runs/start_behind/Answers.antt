@@ -5,4 +5,4 @@ use Rattle.filter.proofs.runs.start_behind.Goals as goal
 pub returns : goal.returns
 returns c =
     let e = c.slots-slots.ensures.0 in
-    rw e (start_behind _ _ _ _ c.requires.1 (rw e at c.run_end.ensures))
+    rw e (start_behind _ _ _ _ c.requires (rw e at c.run_end.ensures))

@@ -8,11 +8,11 @@ pub loop-step-preserved : goal.loop-step-preserved
 loop-step-preserved c =
     let a = c.args in
     let l = c.loop-step in
-    takes_next a.list.shape a.list.buf.now a.list.len a.shape a.dest.now a.len a.max_count l._step l.held l.place l.dest _ c.step_core-stepped.ensures _ _ c.put_step-held.ensures c.loop-step-test.true l.invariant
+    takes_next a.list.lent.shape a.list.lent.buf.now a.list.len a.shape a.dest.now a.len a.max_count l._step l.held l.place l.dest _ c.step_core-stepped.ensures _ _ c.put_step-held.ensures c.loop-step-test.true l.invariant
 
 pub returns : goal.returns
 returns c =
     let a = c.args in
     let l = c.loop-step in
     let e : l._step ≡ a.list.len = omega arith in
-    takes_last a.list.shape a.list.buf.now a.list.len a.shape a.dest.now a.len a.max_count l.held l.place l.dest (rw e at l.invariant)
+    takes_last a.list.lent.shape a.list.lent.buf.now a.list.len a.shape a.dest.now a.len a.max_count l.held l.place l.dest (rw e at l.invariant)

@@ -8,7 +8,7 @@ use Rattle.growth.proofs.wider.wider_due.Goals as goal
 use Rattle.growth.proofs.wider.wider_due.Goals.{After-capacity}
 
 -- the least number of added copies that passes capacity
-least : (c : After-capacity) → c.args.a.len + (c.capacity.result - c.args.a.len + 1) ≡ suc (capacity c.args.a.shape.qbits)
+least : (c : After-capacity) → c.args.a.len + (c.capacity.result - c.args.a.len + 1) ≡ suc (capacity c.args.a.lent.shape.qbits)
 least c = omega (arith, c.capacity.ensures.0, c.requires)
 
 pub returns-then-b-enough : goal.returns-then-b-enough

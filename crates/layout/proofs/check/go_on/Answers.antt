@@ -4,14 +4,7 @@ use Rattle.theory.specs.check.Step.{steps}
 use Rattle.theory.specs.check.Loops.{steps_next, steps_early}
 use Rattle.layout.proofs.check.go_on.Goals as goal
 
-pub loop-init : goal.loop-init
-unfolding steps
-loop-init c = (refl, c.requires.1)
-
 pub returns-then-blocks-at : goal.returns-then-blocks-at
 returns-then-blocks-at c =
     let i = c.loop.invariant in
     (steps_early _ _ _ _ _ _ _ i.0 (omega arith) (omega arith), i.1)
-
-pub loop-preserved : goal.loop-preserved
-loop-preserved c = (steps_next _ _ _ _ _ _ _ c.loop.invariant.0 c.step-at.ensures.0, c.step-at.ensures.1)

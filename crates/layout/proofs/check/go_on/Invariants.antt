@@ -6,4 +6,4 @@ use Rattle.layout.specs.Walk.{cur, Fits}
 use Rattle.layout.proofs.check.go_on.Given as goal
 
 abbrev pub invariant-loop : goal.invariant-loop
-invariant-loop l = (cur l.at ≡ steps_on l.shape.qbits l.shape.rbits l.buf l.counter (cur l.initial.at)) × Fits (2 * blocks l.shape.qbits) l.at
+invariant-loop l = (cur l.at ≡ steps_on l.lent.shape.qbits l.lent.shape.rbits l.lent.buf.now l.counter (cur l.initial.at)) × Fits (2 * blocks l.lent.shape.qbits) l.at

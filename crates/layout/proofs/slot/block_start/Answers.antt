@@ -9,8 +9,3 @@ overflow_mul-result c =
     let a = c.args in
     let e = c.block_len.ensures.0 in
     rw e (omega (arith, bytes_high a.shape.qbits a.shape.rbits c.requires.0, block_in a.shape.qbits a.shape.rbits a.b c.requires.1))
-
-pub returns : goal.returns
-returns c =
-    let a = c.args in
-    rw c.block_len.ensures.0 (refl, block_in a.shape.qbits a.shape.rbits a.b c.requires.1)

@@ -5,8 +5,8 @@ use Rattle.layout.specs.Whole.{views_in}
 use Rattle.writing.specs.CopyIn.{Scanning}
 use Rattle.writing.proofs.insert.scan.Given as goal
 
-abbrev pub invariant-loop-shape : goal.invariant-loop-shape
-invariant-loop-shape l = (l.k < slots-of l.shape.qbits) × (Scanning (slots-of l.shape.qbits) (views_in l.shape l.buf) l.at l.rem l.k l.copies)
+abbrev pub invariant-loop-s : goal.invariant-loop-s
+invariant-loop-s l = (l.k < slots-of l.lent.shape.qbits) × (Scanning (slots-of l.lent.shape.qbits) (views_in l.lent.shape l.lent.buf.now) l.at l.rem l.k l.copies)
 
-abbrev pub decreases-loop-shape : goal.decreases-loop-shape
-decreases-loop-shape l = l.slots - l.k
+abbrev pub decreases-loop-s : goal.decreases-loop-s
+decreases-loop-s l = l.slots - l.k

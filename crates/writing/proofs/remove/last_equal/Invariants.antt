@@ -6,7 +6,7 @@ use Rattle.writing.specs.CopyOut.{Looking}
 use Rattle.writing.proofs.remove.last_equal.Given as goal
 
 abbrev pub invariant-loop-last : goal.invariant-loop-last
-invariant-loop-last l = (l.k < slots-of l.shape.qbits) × (Looking (slots-of l.shape.qbits) (views_in l.shape l.buf) l.at l.rem l.k l.last)
+invariant-loop-last l = (l.k < slots-of l.lent.shape.qbits) × (Looking (slots-of l.lent.shape.qbits) (views_in l.lent.shape l.lent.buf.now) l.at l.rem l.k l.last)
 
 abbrev pub decreases-loop-last : goal.decreases-loop-last
 decreases-loop-last l = l.slots - l.k

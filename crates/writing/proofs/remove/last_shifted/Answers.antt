@@ -10,5 +10,5 @@ returns-then-gap-eq1 c = moving_end _ _ _ c.loop-s.s c.loop-s.invariant.2 _ c.lo
 pub loop-s-preserved : goal.loop-s-preserved
 loop-s-preserved c =
     let d = c.in_ok-gap.ensures in
-    let high = slots_high _ c.requires.0.widths.high in
+    let high = slots_high _ c.args.lent.now.whole.widths.high in
     (omega (arith, d.bound), omega (arith, d.bound), moving_on _ _ _ c.loop-s.s c.loop-s.invariant.2 _ d)

@@ -6,7 +6,7 @@ use Rattle.writing.specs.Shifted.{Moving}
 use Rattle.writing.proofs.remove.last_shifted.Given as goal
 
 abbrev pub invariant-loop-s : goal.invariant-loop-s
-invariant-loop-s l = (l.x ≤ l.s) × (l.s < 2 ^ 62) × Moving (slots-of l.shape.qbits) (views_in l.shape l.buf) l.x l.s
+invariant-loop-s l = (l.x ≤ l.s) × (l.s < 2 ^ 62) × Moving (slots-of l.lent.shape.qbits) (views_in l.lent.shape l.lent.buf.now) l.x l.s
 
 abbrev pub decreases-loop-s : goal.decreases-loop-s
 decreases-loop-s l = l.x + l.slots - l.s

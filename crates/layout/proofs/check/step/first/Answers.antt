@@ -1,5 +1,5 @@
 -- `layout::check::step::first`: slot by slot, what the queue does with the bits. Assumes nothing.
-use native.Mathlib.Omega.{arith}
+use Rattle.std.proofs.Common.{rules, arith}
 use Rattle.theory.specs.check.Loops.{first_begin, first_next, first_done}
 use Rattle.layout.proofs.check.step.first.Goals as goal
 
@@ -8,6 +8,3 @@ loop-i-init c = first_begin _ _ _ _
 
 pub loop-i-preserved : goal.loop-i-preserved
 loop-i-preserved c = first_next _ _ _ _ _ _ _ _ _ _ _ (omega arith) c.bit-o.ensures.0 c.bit-o.ensures.1 c.bit-e.ensures.0 c.bit-e.ensures.1 c.over-owed.ensures c.over-pending.ensures c.loop-i.invariant
-
-pub returns : goal.returns
-returns c = (first_done _ _ _ _ _ _ (omega arith) c.loop-i.invariant, record { passed = omega arith; owed = omega arith; pending = omega arith; used = omega arith; bad = omega arith })

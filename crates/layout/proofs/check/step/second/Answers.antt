@@ -1,5 +1,5 @@
 -- `layout::check::step::second`: slot by slot, what the queue does with the bits, and the tests of each slot. Assumes nothing.
-use native.Mathlib.Omega.{arith}
+use Rattle.std.proofs.Common.{rules, arith}
 use Rattle.theory.specs.check.Buffer.{sight_on, sees_occupied, sees_runend}
 use Rattle.theory.specs.check.Loops.{second_begin, second_next, second_done}
 use Rattle.layout.proofs.check.step.second.Goals as goal
@@ -10,10 +10,7 @@ loop-i-init c = second_begin _ _ _ _ _ _ (omega (arith, c.either-bad.ensures, c.
 pub loop-i-preserved : goal.loop-i-preserved
 loop-i-preserved c =
     let a = c.args in
-    second_next (sight_on a.shape.qbits a.shape.rbits a.buf.now a.b) _ _ _ _ _ _ _ _ _ _ _ _ _ _ _ (omega arith)
-    (sees_occupied a.shape.qbits a.shape.rbits a.b a.buf.now c.requires.1 _ _ _ c.occupieds-occupieds.ensures (omega arith) c.bit-o.ensures.0) c.bit-o.ensures.1
-    (sees_runend a.shape.qbits a.shape.rbits a.b a.buf.now c.requires.1 _ _ _ c.runends-runends.ensures (omega arith) c.bit-e.ensures.0)
+    second_next (sight_on a.lent.now.shape.qbits a.lent.now.shape.rbits a.lent.now.buf.now a.b) _ _ _ _ _ _ _ _ _ _ _ _ _ _ _ (omega arith)
+    (sees_occupied a.lent.now.shape.qbits a.lent.now.shape.rbits a.b a.lent.now.buf.now c.requires.0 _ _ _ c.occupieds-occupieds.ensures (omega arith) c.bit-o.ensures.0) c.bit-o.ensures.1
+    (sees_runend a.lent.now.shape.qbits a.lent.now.shape.rbits a.b a.lent.now.buf.now c.requires.0 _ _ _ c.runends-runends.ensures (omega arith) c.bit-e.ensures.0)
     c.remainder_on-next.ensures c.slot_fails.ensures c.either-bad-in-loop-i.ensures c.either-used.ensures c.over-pending.ensures c.loop-i.invariant
-
-pub returns : goal.returns
-returns c = (second_done _ _ _ _ _ _ _ (omega arith) c.loop-i.invariant, record { passed = omega arith; owed = omega arith; pending = omega arith; used = omega arith; bad = omega arith })

@@ -7,5 +7,5 @@ use Rattle.layout.proofs.check.step.second.Given as goal
 
 abbrev pub invariant-loop-i : goal.invariant-loop-i
 invariant-loop-i l =
-    let s = sight_on l.shape.qbits l.shape.rbits l.buf l.b in
+    let s = sight_on l.lent.shape.qbits l.lent.shape.rbits l.lent.buf.now l.b in
     SecondLoop s l.c.pending l.c.used (l.c.bad + block_fault s l.c.pending) l.i l.pending l.used l.bad l.here

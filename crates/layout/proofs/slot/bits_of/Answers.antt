@@ -1,7 +1,0 @@
--- `layout::slot::bits_of`: a word of the block. Assumes nothing.
-use Rattle.theory.specs.images.Block.{word_at}
-use Rattle.layout.proofs.slot.bits_of.Goals as goal
-
-pub returns : goal.returns
-unfolding word_at
-returns c = rw c.block_start.ensures.0 at c.read64.ensures
