@@ -20,6 +20,7 @@ pub fn low(x: u64, i: u64) -> u64
 }
 
 // Digit i, 0 or 1.
+// Kept: a number and no bool, as the promise has digits, and callers add them up.
 #[tactic(auto, unfolding(theory::specs::number::Field::field))]
 pub fn bit(x: u64, i: u64) -> u64
     requires { i < 64 }

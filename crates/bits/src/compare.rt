@@ -1,4 +1,5 @@
 // Comparisons with exact numbers as answers: what goes by them has no branch, neither in its proof nor, compiled, in its code.
+// Kept: `below` and `equal` answer numbers and no bool, since what counts adds them up.
 ghost use Rattle.std.specs.Prelude.{◌≡◌, ◌-◌, ◌≤◌, min, max, ◌≢◌};
 
 // The larger of two numbers.

@@ -36,6 +36,7 @@ pub fn select(x: u64, n: u64) -> Option<u64>
     }
     let mut y = x;
     let mut left = n;
+    // Kept: it counts no index, it takes four ones at a time.
     while 4 < left {
         y = clear_few(y, 4);
         left -= 4;

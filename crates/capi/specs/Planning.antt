@@ -1,4 +1,4 @@
--- Answers as plain structs: each enum case with its number and its values (docs/RULES.md, "Refusals").
+-- Answers as plain structs: a refusal's number, or 0 and the values (docs/RULES.md, "Refusals").
 use Rattle.std.specs.Prelude.{ℕ, ◌^◌, false, List, pos, Float, Result, Ok, Err}
 use Rattle.std.specs.Float.{fin}
 use Rattle.theory.specs.Shape.{bytes}

@@ -10,6 +10,7 @@ use writing::writers::{
     remove_fingerprint_quick,
 };
 
+// Kept: it takes the record given beside the answer, and `From` has one argument.
 // The answer of an insert, or its number, with the record from now on.
 fn as_inserted(inserted: Result<(u64, Numbers), Refusal>, n: Numbers) -> Changed
     ensures { result ≡ inserted_of n inserted }
@@ -52,6 +53,7 @@ pub extern "C" fn strumblay_insert_quick(
     )
 }
 
+// Kept: it takes the record given beside the answer, and `From` has one argument.
 // 1 if a copy went, else 0, or the number, with the record from now on.
 fn as_removed(removed: Result<Option<Numbers>, Refusal>, n: Numbers) -> Changed
     ensures { result ≡ removed_of n removed }

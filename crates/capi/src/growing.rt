@@ -18,6 +18,7 @@ pub struct SpareAnswer {
     pub numbers: Numbers,
 }
 
+// Kept: it takes the record given beside the answer, and `From` has one argument.
 // The record of what was rebuilt, or the number with the record given.
 pub fn as_rebuilt(rebuilt: Result<Numbers, Refusal>, n: Numbers) -> Changed
     ensures { result ≡ rebuilt_of n rebuilt }
@@ -44,6 +45,7 @@ pub extern "C" fn strumblay_grow(buf: &[u8], n: Numbers, dest: &mut [u8]) -> Cha
     as_rebuilt(rebuild_grown(buf, n, dest), n)
 }
 
+// Kept: it takes the record given beside the answer, and `From` has one argument.
 // The answer, the buffer that holds the filter and the record from now on, or the number.
 fn as_placed(placed: Result<Placed, Refusal>, n: Numbers) -> SpareAnswer
     ensures { result ≡ placed_of n placed }

@@ -47,6 +47,7 @@ fn mark_due(input: &[u8]) -> Result<(), Refusal>
     Ok(())
 }
 
+// Kept: it needs 21 bytes, and `From` takes a slice of any length.
 // The numbers in front of the buffer.
 fn numbers_of(input: &[u8]) -> Numbers
     requires { header_bytes ≤ length input.now }

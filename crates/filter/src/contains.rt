@@ -1,4 +1,5 @@
 // Lookup and count, checked and quick: thin shells over one core.
+// Kept: checked and quick stand side by side, since they promise differently and share all but the line that asks.
 ghost use Rattle.filter.specs.Asking.{Contains, ContainsQuick, Count, CountQuick};
 
 use crate::lookup::{Lookup, count_hash, find_hash};

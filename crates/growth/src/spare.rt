@@ -1,4 +1,5 @@
 // Insert with a spare: where a plain insert would refuse number 7, the filter grows into a second lent buffer.
+// Kept: checked and quick stand side by side, since they promise differently and share all but the line that asks.
 ghost use Rattle.growth.specs.Spare.{InsertSpare, InsertSpareQuick, MovesWorked, PutsInSpare, MovesIfFull};
 
 use crate::rebuild::rebuild_grown;

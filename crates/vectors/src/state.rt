@@ -27,6 +27,7 @@ pub fn low(x: u64) -> u8 {
     (x % 256) as u8
 }
 
+// Kept: it takes three numbers, and `From` has one argument.
 // A record; the widths come as a number: qbits, rbits, max_qbits, a byte each.
 pub fn numbers_of(len: u64, widths: u64, family: u64) -> Numbers {
     Numbers::empty(low(widths >> 16), low(widths >> 8), low(widths), family).with_len(len)

@@ -17,6 +17,7 @@ use layout::refusal::Refusal;
 use layout::shape::Shape;
 use layout::slot;
 
+// Kept: neither case is a failure.
 // Where a scan of a run stops: the place that one copy more takes, before a larger remainder or at the run's end, and the copies met.
 #[derive(Clone, Copy)]
 pub enum Stop {

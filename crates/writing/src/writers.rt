@@ -1,4 +1,5 @@
 // Insert and remove, checked and quick: thin shells over one core each.
+// Kept: checked and quick stand side by side, since they promise differently and share all but the line that asks.
 ghost use Rattle.std.specs.Prelude.{◌≡◌};
 ghost use Rattle.layout.specs.Records.{lowest_due};
 ghost use Rattle.writing.specs.Writing.{Insert, InsertQuick, InsertWorked, Remove, RemoveQuick, RemoveWorked};

@@ -1,7 +1,6 @@
 -- `layout::check::go_on`: step after step, and no more after two rounds. Assumes nothing.
-use Rattle.std.proofs.Common.{refl, arith}
-use Rattle.theory.specs.check.Step.{steps}
-use Rattle.theory.specs.check.Loops.{steps_next, steps_early}
+use Rattle.std.proofs.Common.{arith}
+use Rattle.theory.specs.check.Loops.{steps_early}
 use Rattle.layout.proofs.check.go_on.Goals as goal
 
 pub returns-then-blocks-at : goal.returns-then-blocks-at

@@ -1,7 +1,6 @@
 -- `layout::planning::rbits_for`: the walk of `halvings`, with 2 ^ -k beside k. Assumes nothing.
-use Rattle.std.proofs.Common.{◌≡◌, refl, sym, ◌∙◌, add-one, arith}
-use Rattle.theory.specs.Planning.{rbits_for}
-use Rattle.theory.specs.plan.Rates.{halve, half_bits, halvings_here, halvings_step, halvings_end}
+use Rattle.std.proofs.Common.{sym, ◌∙◌, add-one, arith}
+use Rattle.theory.specs.plan.Rates.{halve, half_bits, halvings_step}
 use Rattle.layout.proofs.planning.rbits_for.Goals as goal
 
 pub loop-k-preserved : goal.loop-k-preserved

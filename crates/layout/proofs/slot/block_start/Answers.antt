@@ -1,7 +1,6 @@
 -- `layout::slot::block_start`: the block lies in the buffer, so its place is in range. Assumes nothing.
 use native.Mathlib.Omega.{arith}
 use Rattle.theory.specs.images.Sizes.{bytes_high, block_in}
-use mathlib.Core.Path.{refl}
 use Rattle.layout.proofs.slot.block_start.Goals as goal
 
 pub overflow_mul-result : goal.overflow_mul-result

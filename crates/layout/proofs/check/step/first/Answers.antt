@@ -1,6 +1,6 @@
 -- `layout::check::step::first`: slot by slot, what the queue does with the bits. Assumes nothing.
-use Rattle.std.proofs.Common.{rules, arith}
-use Rattle.theory.specs.check.Loops.{first_begin, first_next, first_done}
+use Rattle.std.proofs.Common.{arith}
+use Rattle.theory.specs.check.Loops.{first_begin, first_next}
 use Rattle.layout.proofs.check.step.first.Goals as goal
 
 pub loop-i-init : goal.loop-i-init

@@ -1,7 +1,7 @@
 -- `layout::check::step::second`: slot by slot, what the queue does with the bits, and the tests of each slot. Assumes nothing.
-use Rattle.std.proofs.Common.{rules, arith}
+use Rattle.std.proofs.Common.{arith}
 use Rattle.theory.specs.check.Buffer.{sight_on, sees_occupied, sees_runend}
-use Rattle.theory.specs.check.Loops.{second_begin, second_next, second_done}
+use Rattle.theory.specs.check.Loops.{second_begin, second_next}
 use Rattle.layout.proofs.check.step.second.Goals as goal
 
 pub loop-i-init : goal.loop-i-init
