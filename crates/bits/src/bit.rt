@@ -3,6 +3,7 @@ ghost use Rattle.std.specs.Prelude.{◌≡◌, ◌%◌, ◌^◌, ◌<◌};
 ghost use Rattle.theory.specs.number.Field.{field};
 
 // 2 to the i.
+#[tactic(auto, using(theory::specs::number::WordLaws::one_shl))]
 pub fn pow2(i: u64) -> u64
     requires { i < 64 }
     ensures { (result ≡ 2 ^ i) × (0 < result) }

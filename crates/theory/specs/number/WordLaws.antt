@@ -1,6 +1,6 @@
 -- Words as code reads and writes them: a field of twice the width as two, a shifted one, a field put into a word, and where a packed remainder stands. Assumes nothing.
 use Rattle.std.specs.Prelude.{ℕ, ◌+◌, ◌-◌, ◌*◌, ◌/◌, ◌%◌, ◌^◌, ◌<◌, ◌≤◌, ◌≡◌}
-use Rattle.std.proofs.Common.{sym, ◌∙◌, mul-add, mod-lt, mul-le-mul_right, arith, pow_pos, shr_lt, shl_exact}
+use Rattle.std.proofs.Common.{sym, ◌∙◌, mul-add, mod-lt, one-mul, mul-le-mul_right, arith, pow_pos, shr_lt, shl_exact}
 use Rattle.std.proofs.Math.Pow.{split}
 use Rattle.std.proofs.lemmas.Nat.{from_le_bytes-to_le_bytes_8}
 use Rattle.std.specs.Int.{w64, to_le_bytes}
@@ -18,6 +18,10 @@ two x y z o k v h a b =
     let lo : v % 2 ^ (8 * k) < 2 ^ (8 * k) = mod-lt v (pow_pos (8 * k)) in
     b ∙ rw (a, mul-add 8 o k) (put_join x (8 * o) (8 * k) (8 * k) _ _ lo (shr_lt (8 * k) (8 * k) h)
     ∙ rw (put_cat _ (8 * k) (8 * k) (v / 2 ^ (8 * k)) lo, split v (8 * k)))
+
+-- 1 << i
+pub one_shl : (i : ℕ) → i < 64 → (1 * 2 ^ i) % 2 ^ 64 ≡ 2 ^ i
+one_shl i h = shl_exact 1 i 64 (omega arith) (omega arith) ∙ one-mul (2 ^ i)
 
 -- what `x - (f << p) + (v << p)` is
 pub record PutCode (x p w v f : ℕ) : Type 0 where
