@@ -1,5 +1,5 @@
 // Comparisons with exact numbers as answers: what goes by them has no branch, neither in its proof nor, compiled, in its code.
-// Kept: `below` and `equal` answer numbers and no bool, since what counts adds them up.
+// Kept: `below` and `equal` answer numbers and no bool: what counts adds `equal` up, and `below` tells a number of the check's (layout check/flag.rt).
 ghost use Rattle.std.specs.Prelude.{◌≡◌, ◌-◌, ◌≤◌, min, max, ◌≢◌};
 
 // The larger of two numbers.

@@ -27,6 +27,7 @@ const SLOTS: usize = 1 << MAX_QBITS;
 const INPUT: usize = HEADER + (SLOTS / 64 * (17 + 8 * (64 - MAX_QBITS as usize)) + 8) + 1;
 
 // A line with a word and a number, and a line for each slot.
+// Kept: lent memory of this size, and how much of it is text, since nothing here takes from a heap.
 pub const TEXT: usize = 32 + 17 * SLOTS;
 
 // Room for as much of the input as can matter.

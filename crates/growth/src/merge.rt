@@ -1,4 +1,5 @@
 // Two filters merged in a lent destination.
+// Kept: a buffer and its record side by side, of which none of 1 to 5 is due, since the calls' promises speak of both by themselves.
 ghost use Rattle.std.specs.Prelude.{◌≡◌, ◌+◌, ◌≤◌, length};
 ghost use Rattle.theory.specs.Joining.{limit};
 ghost use Rattle.layout.specs.Records.{lowest_due};
@@ -25,7 +26,6 @@ fn max_count_of(keep: u64) -> u64
     if keep == 0 { 1 } else { u64::MAX }
 }
 
-// Kept, here and below: a buffer and its record side by side, of which none of 1 to 5 is due, since the calls' promises speak of both by themselves.
 // What the result needs capacity for, at equal widths.
 #[tactic(auto, using(theory::specs::plan::Limits::few, layout::specs::Judging::clear_of))]
 fn wanted_len(buf: &[u8], n: Numbers, other: &[u8], m: Numbers, keep: u64) -> u64

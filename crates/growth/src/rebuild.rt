@@ -1,4 +1,5 @@
 // A filter rebuilt in a lent destination: growth.
+// Kept: a buffer and its record side by side, of which none of 1 to 5 is due, since the calls' promises speak of both by themselves.
 ghost use Rattle.std.specs.Prelude.{◌≡◌};
 ghost use Rattle.theory.specs.Shape.{Widths};
 ghost use Rattle.theory.specs.Refusal.{max_due};

@@ -1,4 +1,5 @@
 // A list's fingerprints taken into another buffer, one insert for each.
+// Kept: buffer and shape side by side where the buffer is written, since a struct around it would say each promise before and after twice.
 ghost use Rattle.std.specs.Prelude.{◌+◌, ◌^◌, ◌<◌, length};
 ghost use Rattle.layout.specs.Whole.{Whole};
 ghost use Rattle.growth.specs.Take.{Puts, PutsStep, TakesIn};

@@ -52,7 +52,7 @@ impl<'a> Blocks<'a> {
         bits::word::read64(self.buf, block_start(self.shape, b) + d)
     }
 
-    // Kept, here and in `is_occupied` and `is_runend`: a number and no bool, as the definition of a cell has it, and callers add it up.
+    // Kept, here and in `is_occupied` and `is_runend`: a number and no bool, as the definition of a cell has it; a runend is added up, too.
     // The bit of slot s in the area from byte d on, 0 or 1: with one load and one test, which `get_cell` for one digit is not.
     #[tactic(auto, using(theory::specs::images::Sizes::slot_block, theory::specs::images::Block::word_bit))]
     fn bit_of(&self, d: usize, s: u64) -> u64

@@ -6,7 +6,7 @@ ghost use Rattle.layout.specs.Shapes.{ShapedAs};
 use crate::refusal::Refusal;
 
 // The widths of a filter.
-// Kept: that they are allowed is no invariant, since a record that is refused has a shape too (`Numbers::shape`, `shape_of`).
+// Kept: that they are allowed is no invariant, so what needs it asks for it: a record that is refused has a shape too (`Numbers::shape`, `shape_of`).
 #[derive(Clone, Copy)]
 pub struct Shape {
     pub qbits: u8,

@@ -27,7 +27,7 @@ pub fn block_start(shape: Shape, b: u64) -> usize
     (b as usize) * shape.block_len()
 }
 
-// Kept, here and in what writes above: buffer and shape side by side, since a struct around a lent buffer that is written would say each promise before and after twice.
+// Kept: buffer and shape side by side where the buffer is written, since a struct around it would say each promise before and after twice.
 // The cell of slot s in the area from byte d on becomes v.
 #[tactic(auto, using(theory::specs::images::Sizes::slot_block), unfolding(theory::specs::images::Block::spot))]
 pub fn set_cell(buf: &mut [u8], shape: Shape, d: usize, w: u64, s: u64, v: u64)

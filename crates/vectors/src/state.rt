@@ -7,6 +7,7 @@ use layout::numbers::Numbers;
 use std::io;
 
 // A record, and how many bytes of the buffer are lent.
+// Kept: a length beside a fixed buffer, since that parts of one are lent, too short and too long ones, is what is tested.
 #[derive(Clone, Copy)]
 pub struct Lent {
     pub numbers: Numbers,

@@ -1,4 +1,5 @@
 // One copy fewer of a fingerprint.
+// Kept: buffer and shape side by side where the buffer is written, since a struct around it would say each promise before and after twice.
 ghost use Rattle.std.specs.Prelude.{◌≡◌, ◌+◌, ◌-◌, ◌^◌, ◌<◌, ◌≤◌, min, length};
 ghost use Rattle.theory.specs.Shape.{slots, blocks};
 ghost use Rattle.theory.specs.number.Bytes.{le};

@@ -1,4 +1,5 @@
 // Cells of an area moved by one slot, round the end; offset bytes counted up.
+// Kept: buffer and shape side by side where the buffer is written, since a struct around it would say each promise before and after twice.
 ghost use Rattle.std.specs.Prelude.{◌≡◌, ◌+◌, ◌^◌, ◌<◌, ◌≤◌, min, length};
 ghost use Rattle.theory.specs.Shape.{slots, blocks};
 ghost use Rattle.theory.specs.number.Bytes.{le};

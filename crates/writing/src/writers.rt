@@ -1,5 +1,6 @@
 // Insert and remove, checked and quick: thin shells over one core each.
 // Kept: checked and quick stand side by side, since they promise differently and share all but the line that asks.
+// Kept: a buffer and its record side by side, of which none of 1 to 5 is due, since the calls' promises speak of both by themselves.
 ghost use Rattle.std.specs.Prelude.{◌≡◌};
 ghost use Rattle.layout.specs.Records.{lowest_due};
 ghost use Rattle.writing.specs.Writing.{Insert, InsertQuick, InsertWorked, Remove, RemoveQuick, RemoveWorked};

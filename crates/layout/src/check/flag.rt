@@ -1,5 +1,5 @@
 // The tests of a slot, with 1 for one that fails and 0 for one that passes.
-// Kept: numbers and no bool, as the cursor and the theory's step have them, so that a round of the check has no branch.
+// Kept: the answers are numbers and no bool, as the theory's step has them, which counts what fails, and the cursor keeps the count.
 ghost use Rattle.std.specs.Prelude.{◌≡◌, ◌+◌, ◌^◌, ◌<◌, min};
 ghost use Rattle.theory.specs.check.Step.{fault, differ};
 ghost use Rattle.theory.specs.check.Loops.{most};

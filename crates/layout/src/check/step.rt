@@ -117,6 +117,7 @@ fn tail(lent: &Blocks) -> u64
 }
 
 // 1 if block b's offset byte is not what p pending runs make it, or the last eight bytes are not zero.
+// Kept: a number and no bool, as in check/flag.rt.
 #[tactic(auto, using(theory::specs::check::Buffer::block_fails))]
 fn block_fails(lent: &Blocks, b: u64, p: u64) -> u64
     requires { b < blocks lent.now.shape.qbits }

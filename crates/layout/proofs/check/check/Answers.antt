@@ -1,8 +1,6 @@
 -- `layout::check::check`: numbers 1 to 5 first; then two rounds over the blocks, whose answer decides. Assumes nothing.
 use Prim.Native.Nat.{◌+◌, ◌*◌}
-use mathlib.Core.Path.{◌≡◌, sym}
-use Rattle.layout.specs.Refusals.{number_some, handed_on}
-use mathlib.Core.Logic.{inl}
+use mathlib.Core.Path.{◌≡◌}
 use native.Mathlib.Omega.{arith}
 use Rattle.theory.specs.Shape.{blocks as blocks-of}
 use Rattle.layout.specs.Judging.{judged}
@@ -12,16 +10,6 @@ use Rattle.layout.proofs.check.check.Goals.{After-blocks-2}
 -- both rounds
 two : (c : After-blocks-2) → 2 * c.blocks-2.result ≡ blocks-of c.of-lent.result.shape.qbits + blocks-of c.of-lent.result.shape.qbits
 two c = omega (arith, c.blocks-2.ensures.0)
-
-pub returns-in_err-number_due : goal.returns-in_err-number_due
-returns-in_err-number_due c =
-    let e = c.in_err-number_due.ensures in
-    rw (handed_on _ c.from_residual.ensures.1) (inl (omega (arith, e, number_some c.in_err-number_due.field-0.0), sym e))
-
-pub go_on-c-requires : goal.go_on-c-requires
-go_on-c-requires c =
-    let f = c.begin.ensures.1 in
-    record { passed = omega (arith, f.passed); owed = f.owed; pending = f.pending; used = f.used; bad = f.bad }
 
 pub returns : goal.returns
 returns c =
