@@ -110,6 +110,17 @@ fn merge_sorted(
     Ok(n.with_shape(shape, len))
 }
 
+// The destination gets what the buffer has.
+// Kept: the slice's own copy is a call of `memmove`, which the archive for C would then need from outside.
+fn copy(buf: &[u8], dest: &mut [u8])
+    requires { length dest.old ≡ length buf.now }
+    ensures { dest.new ≡ buf.now }
+{
+    for i in 0..buf.len() {
+        dest[i] = buf[i];
+    }
+}
+
 // Other wider: its fingerprints, cut to self's width, are added to self's; without duplicates only absent ones, once each. Number 7, then 12.
 #[tactic(auto, using(layout::specs::Judging::clear_whole, layout::specs::Judging::clear_within, theory::specs::plan::Limits::few))]
 fn merge_wider(
@@ -128,7 +139,7 @@ fn merge_wider(
     if dest.len() != buf.len() {
         return Err(Refusal::DestinationLength);
     }
-    dest.copy_from_slice(buf);
+    copy(buf, dest);
     let most = max_count_of(keep);
     let len = take_in(added, dest, n.shape(), n.len, most);
     Ok(n.with_len(len))

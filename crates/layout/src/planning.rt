@@ -112,6 +112,7 @@ fn specs_of(qbits: u8, rbits: u8) -> FilterSpecs
 }
 
 // What a filter for this capacity and rate comes to; or number 10, then 9.
+#[tactic(auto, using(theory::specs::refusals::PlanRefused::specs_ten))]
 pub fn filter_specs(capacity: u64, rate: f64) -> Result<FilterSpecs, Refusal>
     ensures { SpecifiedAs capacity rate result }
 {

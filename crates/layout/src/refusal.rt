@@ -1,5 +1,5 @@
 // Why a call refuses: the rules' numbers, each with its words.
-ghost use Rattle.std.specs.Prelude.{◌≡◌};
+ghost use Rattle.std.specs.Prelude.{◌≡◌, Some, decimal};
 ghost use Rattle.layout.specs.Refusals.{number};
 
 use std::error::Error;
@@ -50,6 +50,8 @@ impl From<Refusal> for u8 {
 }
 
 impl fmt::Display for Refusal {
+    ghost output = { λ refusal. Some (decimal (number refusal)) };
+
     // The rules' number, in decimal.
     fn fmt<W: fmt::Write>(&self, f: &mut fmt::Formatter<W>) -> fmt::Result {
         write!(f, "{}", u8::from(*self))

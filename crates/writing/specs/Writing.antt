@@ -1,7 +1,7 @@
 -- The promises of insert and remove (docs/RULES.md, "Insert" and "Remove").
 use Rattle.std.specs.Prelude.{Option, Some, None, Result, Ok, Err, Bool, true, false, ℕ, ◌+◌, ◌-◌, ◌^◌, ◌<◌, ◌≡◌, refl, ◌⊎◌, List, length}
 use Rattle.std.proofs.Common.{sym, ap, ◌∙◌, inl, inr, arith, eq-zero-or-pos, pow_pos}
-use Rattle.theory.specs.Answer.{Answer, gives, refuses, values}
+use Rattle.theory.specs.Answer.{Answer, gives, refuses, values, number as answered}
 use Rattle.theory.specs.Shape.{slots, capacity, blocks, bytes}
 use Rattle.theory.specs.Holding.{copies, fewer}
 use Rattle.theory.specs.Changing.{Rule, insert_rule, remove_rule, inserted, remove_answer}
@@ -16,6 +16,7 @@ use Rattle.theory.specs.writing.Removing.{fewer_length}
 use Rattle.theory.specs.list.RuleCases.{absent_answer, held_answer, fewer_absent}
 use Rattle.layout.specs.declared.numbers.Numbers.{Numbers}
 use Rattle.layout.specs.declared.refusal.Refusal.{Refusal}
+use Rattle.layout.specs.Refusals.{number}
 use Rattle.layout.specs.Records.{shape_of, with_len, lowest_due, HoldsOf, Within, Keeps, fingerprint_of, CheckedOn, QuickOn, Leaves, Changed, changed}
 use Rattle.writing.specs.declared.insert.Insertion.{Insertion}
 use Rattle.writing.specs.declared.insert.Insertion.TheVariants as core
@@ -118,10 +119,10 @@ inserted_says_lem n (Ok (core.Enough c)) = refl
 inserted_says_lem n (Ok (core.Added m)) = refl
 inserted_says_lem n (Err e) = refl
 
-refused_core : (n : Numbers) (a : Result Insertion Refusal) (k : ℕ) → inserted_says (inserted_from n a) ≡ refuses k → (e : Refusal) × (a ≡ Err e)
+refused_core : (n : Numbers) (a : Result Insertion Refusal) (k : ℕ) → inserted_says (inserted_from n a) ≡ refuses k → (e : Refusal) × (a ≡ Err e) × (number e ≡ k)
 refused_core n (Ok (core.Enough c)) k e = let z : ◌≡◌ {A = ℕ} 0 1 = cc in absurd (omega arith)
 refused_core n (Ok (core.Added m)) k e = let z : ◌≡◌ {A = ℕ} 0 1 = cc in absurd (omega arith)
-refused_core n (Err j) k e = (j, refl)
+refused_core n (Err j) k e = (j, refl, ap answered e)
 
 inserted_within : (n : Numbers) → Within n → (a : Result Insertion Refusal) → Below (shape_of n) n.len a → ChangedWithin n (inserted_says (inserted_from n a))
 inserted_within n w (Ok (core.Enough c)) below = record { rest = refl; within = w }

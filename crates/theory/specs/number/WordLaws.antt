@@ -1,4 +1,4 @@
--- Words as code reads and writes them: a field of twice the width as two, a shifted one, a field put into a word, and where a packed remainder stands. Assumes nothing.
+-- Laws of words: a field of twice the width as two, a shifted one, a field put into a word, and where a packed remainder stands. Assumes nothing.
 use Rattle.std.specs.Prelude.{ℕ, ◌+◌, ◌-◌, ◌*◌, ◌/◌, ◌%◌, ◌^◌, ◌<◌, ◌≤◌, ◌≡◌}
 use Rattle.std.proofs.Common.{sym, ◌∙◌, mul-add, mod-lt, one-mul, mul-le-mul_right, arith, pow_pos, shr_lt, shl_exact}
 use Rattle.std.proofs.Math.Pow.{split}

@@ -20,7 +20,7 @@ pub returns : goal.returns
 returns c =
     let a = c.args in
     let k = c.take_in-len in
-    let y = c.copy_from_slice in
+    let y = c.copy in
     let same : length a.dest.now ≡ length a.buf.now = omega (arith, c.if-dest-buf.false) in
     rw c.with_len.ensures
-    (wider_built a.n a.buf.now a.m a.other.now c.requires.0 c.requires.1 a.keep _ _ c.new.ensures c.new-added.ensures a.dest.now _ c.in_ok-wider_due.ensures same _ _ (λ i. omega (arith, c.type_inv.dest i)) (k.auto.dest ∙ y.ensures.len) (rw (y.ensures.after, c.max_count_of-most.ensures, c.shape.ensures) at k.ensures))
+    (wider_built a.n a.buf.now a.m a.other.now c.requires.0 c.requires.1 a.keep _ _ c.new.ensures c.new-added.ensures a.dest.now _ c.in_ok-wider_due.ensures same _ _ (λ i. omega (arith, c.type_inv.dest i)) (k.auto.dest ∙ y.auto.dest) (rw (y.ensures, c.max_count_of-most.ensures, c.shape.ensures) at k.ensures))

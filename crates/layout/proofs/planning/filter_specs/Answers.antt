@@ -1,4 +1,4 @@
--- `layout::planning::filter_specs`: numbers 10 and 9, then the specs. Assumes nothing.
+-- `layout::planning::filter_specs`: numbers 10 and 9, then the specs. `specs_ten` is named on the function as well, so that a right exit in front of these would be found: the edit specs_answer_9_for_10 puts a wrong one there. Assumes nothing.
 use Prim.Native.Nat.{◌+◌, ◌≤◌}
 use mathlib.Core.Path.{sym, ◌∙◌}
 use native.Mathlib.Omega.{arith}
