@@ -60,6 +60,7 @@ fn numbers_of(input: &[u8]) -> Numbers
 }
 
 // The first of 13, 1 and 14 that is due.
+#[tactic(auto, using(theory::specs::refusals::ProgramAsks::header_widths, layout::specs::Refusals::number_some))]
 fn header_due(input: &[u8]) -> Result<(), Refusal>
     ensures { Asked (header_due input.now) result }
 {

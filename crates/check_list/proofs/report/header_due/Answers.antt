@@ -1,4 +1,4 @@
--- `check_list::report::header_due`: 13, then 1, then 14. Assumes nothing.
+-- `check_list::report::header_due`: 13, then 1, then 14. What is named on the function would find a right exit in front of the second: the edit limit_for_widths puts a wrong one there. Assumes nothing.
 use Rattle.std.proofs.Common.{◌∙◌, arith}
 use Rattle.theory.specs.Report.{largest_qbits}
 use Rattle.theory.specs.refusals.ProgramAsks.{none_mark, limit_due_lem, limit_none, header_mark, header_widths, header_limit}
