@@ -8,7 +8,7 @@ pub loop-step-preserved : goal.loop-step-preserved
 loop-step-preserved c =
     let a = c.args in
     let l = c.loop-step in
-    takes_next a.list.lent.shape a.list.lent.buf.now a.list.len a.shape a.dest.now a.len a.max_count l._step l.held l.place l.dest _ c.step_core-stepped.ensures _ _ c.put_step-held.ensures c.loop-step-test.true l.invariant
+    takes_next a.list.lent.shape a.list.lent.buf.now a.list.len a.shape a.dest.now a.len a.max_count l._step l.held l.place l.dest _ c.step_core-stepped.ensures _ _ c.put_step-held.ensures (omega arith) l.invariant
 
 pub returns : goal.returns
 returns c =
